@@ -1,4 +1,4 @@
--- What a gate keeps stays as its journal says, and its calls are those of the gate of one thread.
+-- After each call the indexes of a gate agree with its journal, and the call is one that `journal` defines.
 use Rattle.std.proofs.Common.{◌≡◌, ℕ, zero, suc, ◌<◌, ◌≤◌, ◌+◌, Bool, true, false, not, ◌&&◌, ◌||◌, cond, List, [], ◌∷◌, ◌++◌, take, length, get_or, replicate, fold, Option, Some, None, option_map, refl, sym, ap, ◌∙◌, subst, arith, add-zero, mul-zero}
 use Rattle.std.specs.List.{count_by, list_all}
 use Rattle.std.specs.Option.{option_map_or}
@@ -41,11 +41,11 @@ use Rattle.claim_gate.proofs.Marks.{marked_stay, marked_accept, marked_take, mar
 use Rattle.claim_gate.proofs.Providers.{intakes_stay, intakes_accept, intakes_end, known_intake, due_is}
 use Rattle.claim_gate.proofs.Readiness.{has_place, ready_is_work, nothing_is_ready}
 
--- the gate at a journal
+-- the gate with this journal, as journals see it
 abbrev gate : Terms → List Event → Bool → GateAt
 gate T J stopped = record { terms = T; journal = J; stopped = stopped }
 
--- the journal with the close, where it is due
+-- the journal with the close appended, if it is due
 abbrev pub closed_where : Bool → List Event → List Event
 closed_where b J = cond b (J ++ Close ∷ []) J
 
@@ -62,7 +62,7 @@ closing_is T J b is open_yet =
     ap (λ c. cond (due T J && not c) (J ++ Close ∷ []) J) open_yet
     ∙ ap (λ c. cond c (J ++ Close ∷ []) J) (and_true (due T J) ∙ is)
 
--- what is kept beside the journal is as it says
+-- the progress of the files and the entries agree with the journal
 record IsTied (terms : TermsParts) (J : List Event) (lanes : List Place) (intakes : List Intake) : Type 0 where
   pub intakes_are : AreIntakesOf J (length terms.files) intakes
   pub marked : AreMarked J lanes
@@ -80,7 +80,7 @@ decisions_where : (b : Bool) (J : List Event) → count_by is_any_decision (clos
 decisions_where true J = decisions_stay J Close refl
 decisions_where false J = refl
 
--- an event that accepts no claim leaves the order
+-- an event that accepts no claim keeps the order of the files
 order_same : (T : Terms) (J : List Event) (event : Event) → accept_in event ≡ [] → IsInOrder T J → IsInOrder T (J ++ event ∷ [])
 order_same T J event none ordered =
     let same : accepts (J ++ event ∷ []) ≡ accepts J =
@@ -91,11 +91,11 @@ order_where : (T : Terms) (b : Bool) (J : List Event) → IsInOrder T J → IsIn
 order_where T true J ordered = order_same T J Close refl ordered
 order_where T false J ordered = ordered
 
--- where nothing more of a provider is accepted by a gate that accepts, it has ended
+-- if an open gate accepts no more claims of a provider, the provider has ended
 ended_of : (stopped : Bool) (J : List Event) (q : ℕ) → stopped ≡ false → closed J ≡ false → ((stopped || closed J) || has_end J q) ≡ true → has_end J q ≡ true
 ended_of stopped J q runs open_yet past = sym (ap (λ b. (b || closed J) || has_end J q) runs ∙ ap (λ b. b || has_end J q) open_yet) ∙ past
 
--- a gate that nothing was offered yet
+-- a new gate has at least one provider, and none has ended
 none_ended : (n : ℕ) → 1 ≤ n → list_all (λ x. x.ended) (replicate n none_yet) ≡ false
 none_ended zero h = let never : ⊥ = omega arith in absurd never
 none_ended (suc n) h = refl
@@ -143,7 +143,7 @@ module _ (terms : TermsParts) (starts : EmptyJournalIsLawful) (b : Bool) (files 
         ordered = λ by_files T is. order_where T b [] refl;
       }
 
--- an accepted claim
+-- the gate accepts a claim
 module _ (terms : TermsParts) (J : List Event) (stopped : Bool) (lanes : List Place) (intakes : List Intake) (is_closed : Bool) (decisions : ℕ)
     (kept : IsKept terms J lanes intakes is_closed decisions) where
   module _ (goes : OfferGoes) (stays : StaysInOrder) (provider place : ℕ) (claim : Claim) (year : ℕ) (b : Bool)
@@ -212,7 +212,7 @@ module _ (terms : TermsParts) (J : List Event) (stopped : Bool) (lanes : List Pl
               (record { open_yet = open_yet; place_is = in_turn T is; there = slice_get_within (claims_of T provider) place claim (filed T is) }));
         }
 
-  -- a provider that ends
+  -- a provider ends
   module _ (goes : EndGoes) (provider count : ℕ) (b : Bool)
       (runs : stopped ≡ false) (open_yet : closed J ≡ false)
       (known : ForTerms terms (λ T. HasClaims T provider count))
@@ -258,11 +258,11 @@ module _ (terms : TermsParts) (J : List Event) (stopped : Bool) (lanes : List Pl
           ordered = λ by_files T is. order_where T b ended_in (order_same T J (End provider) refl (kept.ordered by_files T is));
         }
 
-  -- an event that is no accept and no end, behind the journal
+  -- the entries agree with the journal after an event that changes no claim
   places_still : (T : Terms) (event : Event) → claims T (J ++ event ∷ []) ≡ claims T J → ArePlacesOf T J lanes → ArePlacesOf T (J ++ event ∷ []) lanes
   places_still T event same are = places_stay_claims T J (J ++ event ∷ []) lanes same kept.marked.as_many are
 
-  -- a claim that is taken
+  -- a claim is taken
   module _ (goes : TakeGoes) (picked : ReadyClaim) (acc : Acc) (turns : InTurn (with_phase lanes picked.position InWork)) (runs : stopped ≡ false) (not_over : ¬ IsOver J)
       (is_picked : IsPicked lanes picked) (begins : acc ≡ started (opening (accounts_of terms.balances) (account_of terms.plan picked.claim)) picked.own picked.family_year) where
     abbrev k : ℕ
@@ -304,7 +304,7 @@ module _ (terms : TermsParts) (J : List Event) (stopped : Bool) (lanes : List Pl
   take_nothing T is turns runs not_over none =
       (runs, λ F. not_over (record { closed = F.closed; all = F.all }), nothing_is_ready T J lanes kept.marked (kept.places_are T is) turns none, refl)
 
-  -- a claim that is decided
+  -- a claim is decided
   module _ (goes : FinishGoes) (k : ℕ) (claim : Claim) (acc left : Acc) (outcome : Outcome) (runs : stopped ≡ false)
       (once : has_decision J k ≡ false) (in_work : has_take J k ≡ true)
       (job : ForTerms terms (λ T. IsJob T J k claim acc))
@@ -316,7 +316,7 @@ module _ (terms : TermsParts) (J : List Event) (stopped : Bool) (lanes : List Pl
     work_by (Some InWork) b d = refl
     work_by (Some (Decided l)) b d = absurd (both_ways true d refl)
 
-    -- its place says so
+    -- the entry of the claim is in work
     pub is_in_work : phase_at lanes k ≡ Some InWork
     is_in_work = work_by (phase_at lanes k) (sym (kept.marked.taken_are k) ∙ in_work) (sym (kept.marked.decided_are k) ∙ once)
 

@@ -1,4 +1,4 @@
--- The places stay those of the claims at their positions.
+-- After each event the entries are those of the claims at their positions.
 use Rattle.std.proofs.Common.{◌≡◌, ℕ, zero, suc, ◌<◌, ◌≤◌, ℤ, pos, ◌+ℤ◌, ◌==◌, Bool, true, false, not, ◌||◌, ◌&&◌, List, [], ◌∷◌, ◌++◌, take, length, get_or, Option, Some, None, ◌⊎◌, fold, refl, sym, ap, ◌∙◌, subst, inl, inr, arith, add-one, append-nil, eqb-true}
 use Rattle.std.specs.List.{slice_get}
 use Rattle.std.specs.Str.{bytes_eq}
@@ -28,7 +28,7 @@ use Rattle.journal.specs.declared.event.Event.{Event}
 use Rattle.claim_gate.specs.GateIndex.{IsPhaseOf, IsPlaceAt, ArePlacesOf}
 use Rattle.claim_gate.proofs.Journals.{length-claims}
 
--- an element of a list with one more is an earlier one, or the new one
+-- an element of a list with one element appended is an earlier one or the new one
 pub pushed : {A : Type 0} (xs : List A) (x y : A) (i : ℕ) → slice_get (xs ++ x ∷ []) i ≡ Some y → (slice_get xs i ≡ Some y) ⊎ ((i ≡ length xs) × (x ≡ y))
 pushed [] x y zero h = inr (refl, same_Some x y h)
 pushed [] x y (suc i) h = absurd (none-some y h)
@@ -42,7 +42,7 @@ phase_along claim left left' (Ready c) f h = h
 phase_along claim left left' InWork f h = tt
 phase_along claim left left' (Decided l) f h = h ∙ f
 
--- a journal with more claims behind
+-- a longer journal has the claims of the shorter one, and more claims after them
 module _ (T : Terms) (J K : List Event) (more : List (Option Claim)) (longer : claims T K ≡ claims T J ++ more) where
   pub before_stays : (k : ℕ) (account : Account) → k ≤ accepted_count J → before T K k account ≡ before T J k account
   before_stays k account within =
@@ -65,14 +65,14 @@ module _ (T : Terms) (J K : List Event) (more : List (Option Claim)) (longer : c
         (sym (before_stays (suc k) (account_of T.plan is.claim) (omega arith))) is.phase;
   }
 
--- the places of a journal that accepts no more
+-- the entries are also those of a journal with the same claims
 pub places_stay_claims : (T : Terms) (J K : List Event) (lanes : List Place) → claims T K ≡ claims T J → length lanes ≡ accepted_count J
     → ArePlacesOf T J lanes → ArePlacesOf T K lanes
 places_stay_claims T J K lanes same many are k place there =
     let within : k < length lanes = slice_get_within lanes k place there in
     place_stays T J K [] (same ∙ sym (append-nil (claims T J))) k place (omega arith) (are k place there)
 
--- no place
+-- these are the defaults where there is no entry
 nobody : Account
 nobody = record { family = []; member = []; year = 0 }
 
@@ -82,7 +82,7 @@ nowhere = record { account = nobody; phase = InWork }
 plus_none : (x : ℤ) → x +ℤ pos 0 ≡ x
 plus_none x = omega (arith, ints)
 
--- of two facts, of which the first fails, the second holds
+-- if an implication between two tests holds, and so does its premise, its conclusion holds
 pub other_of : (b c : Bool) → (not b || c) ≡ true → b ≡ true → c ≡ true
 other_of true c h is = h
 other_of false c h is = absurd (both_ways false refl is)
@@ -96,7 +96,7 @@ left_is claim left other (Decided l) h is = h
 same_acc : (a b : Acc) → a.met ≡ b.met → a.oop ≡ b.oop → a.paid ≡ b.paid → a.fmet ≡ b.fmet → a.foop ≡ b.foop → a ≡ b
 same_acc a b m o p f g = λ i. record { met = m i; oop = o i; paid = p i; fmet = f i; foop = g i }
 
--- what is opened of the settlement: nothing is added to another household, and of another member's claim the family's sums alone grow
+-- a claim adds nothing to an account of another family or year, and only the family's sums to another member's account
 none_grown : (o : Outcome) (acc : Acc) → accumulated false false acc o ≡ acc
 unfolding accumulated
 none_grown o acc = same_acc (grown false false acc o) acc (plus_none acc.met) (plus_none acc.oop) (plus_none acc.paid) (plus_none acc.fmet) (plus_none acc.foop)
@@ -146,13 +146,13 @@ module _ (T : Terms) (J : List Event) where
       ap (λ n. before T J n a) (sym (add-one k))
       ∙ ap (λ (b : Book). b a) (fold_more (noted T.plan) (opening T.balances) (claims T J) k None within)
 
-  -- what the claim at a position makes of an account
+  -- the claim at a position adds its outcome's amounts to each account, as far as they belong to it
   makes : (k : ℕ) (c : Claim) → k < accepted_count J → claim_at T J k ≡ Some c → (a : Account)
       → before T J (suc k) a
       ≡ accumulated (is_same (account_of T.plan c) a) (is_family_year (account_of T.plan c) a) (before T J k a) (outcome_of T.plan c (before T J k (account_of T.plan c)))
   makes k c here located a = before_next k here a ∙ ap (λ o. noted T.plan (before T J k) o a) located
 
-  -- and of its own one
+  -- it adds all of them to its own account
   pub own_leaves : (k : ℕ) (c : Claim) → claim_at T J k ≡ Some c → k < accepted_count J
       → before T J (suc k) (account_of T.plan c)
       ≡ accumulated true true (before T J k (account_of T.plan c)) (outcome_of T.plan c (before T J k (account_of T.plan c)))
@@ -171,7 +171,7 @@ module _ (T : Terms) (J : List Event) where
         let n : c.member ≡ account.member = (bytes_eq-Decides c.member account.member).0 m in
         λ i. record { family = f i; member = n i; year = y i }
 
-    -- a place of another household, one of the account, and one of another member of the household
+    -- the cases are an entry of another family or year, one of the account, and one of another member of the family
     step_by : (h m : Bool) (k : ℕ) (place : Place) (is : IsPlaceAt T J k place) → k < accepted_count J
         → is_family_year (account_of T.plan is.claim) account ≡ h → bytes_eq (account_of T.plan is.claim).member account.member ≡ m
         → (h ≡ true → is_decided place.phase ≡ true)
@@ -209,7 +209,7 @@ module _ (T : Terms) (J : List Event) where
         (ap (λ (a : Acc). a.fmet) left ∙ family.0)
         (ap (λ (a : Acc). a.foop) left ∙ family.1)
 
-    -- a place of the household is in the lane
+    -- an entry of the family and year is in the family's lane
     in_lane : (place : Place) (c : Account) → place.account ≡ c → is_family_year c account ≡ true → is_of account.family place ≡ true
     in_lane place c same family_year =
         ap (λ (a : Account). bytes_eq a.family account.family) same ∙ (and_parts (bytes_eq c.family account.family) (c.year == account.year) family_year).0
@@ -247,7 +247,7 @@ module _ (T : Terms) (J K : List Event) (lanes : List Place) (claim : Claim) (ye
         (λ h. refl) (λ h. refl);
   }
 
-  -- the places with that of a claim that is accepted
+  -- the entries with that of the accepted claim agree with the journal
   pub places_accept : ArePlacesOf T K (lanes ++ next_place lanes claim year ∷ [])
   places_accept k place there =
       elim (pushed lanes (next_place lanes claim year) place k there) [
@@ -258,7 +258,7 @@ module _ (T : Terms) (J K : List Event) (lanes : List Place) (claim : Claim) (ye
             subst (IsPlaceAt T K k) last.1 (subst (λ j. IsPlaceAt T K j (next_place lanes claim year)) (sym last.0) newest)
       ]
 
--- a place of the same account that says nothing of its claim
+-- an entry is still that of its claim when the claim is taken
 in_work : (T : Terms) (J : List Event) (k : ℕ) (old : Place) → IsPlaceAt T J k old → IsPlaceAt T J k (record old { phase = InWork })
 in_work T J k old is = record { claim = is.claim; located = is.located; account = is.account; phase = tt }
 
@@ -270,7 +270,7 @@ with_phase_is (x ∷ lanes) zero phase (suc j) place h = inl h
 with_phase_is (x ∷ lanes) (suc k) phase zero place h = inl h
 with_phase_is (x ∷ lanes) (suc k) phase (suc j) place h = with_phase_is lanes k phase j place h
 
--- the places with a claim in work
+-- the entries agree with the journal after a claim is taken
 pub places_take : (T : Terms) (J : List Event) (lanes : List Place) (k : ℕ) → ArePlacesOf T J lanes → ArePlacesOf T J (with_phase lanes k InWork)
 places_take T J lanes k are j place there =
     elim (with_phase_is lanes k InWork j place there) [

@@ -1,4 +1,4 @@
--- The places with a decision, position by position.
+-- The entries after a decision, position by position.
 use Rattle.std.proofs.Common.{◌≡◌, ℕ, zero, suc, Bool, true, false, cond, List, [], ◌∷◌, Some, ◌⊎◌, refl, sym, ap, ◌∙◌, subst, inl, inr}
 use Rattle.std.specs.List.{slice_get}
 use Rattle.std.proofs.lemmas.Option.{none-some, same_Some}
@@ -14,7 +14,7 @@ use Rattle.journal.specs.Events.{claim_at, before}
 use Rattle.journal.specs.declared.event.Event.{Event}
 use Rattle.claim_gate.specs.GateIndex.{IsPhaseOf, IsPlaceAt, ArePlacesOf}
 
--- a place that is ready if it waited
+-- the entry is the old one at the position, except that it is ready if it waited
 record IsReleased (lanes : List Place) (j : ℕ) (place : Place) : Type 0 where
   pub old : Place
   pub there : slice_get lanes j ≡ Some old
@@ -36,7 +36,7 @@ released_is : (family : List ℕ) (lanes : List Place) (j : ℕ) (place : Place)
 released_is family [] j place h = absurd (none-some place h)
 released_is family (x ∷ lanes) j place h = released_by (is_of family x) family x lanes (released_is family lanes) j place h
 
--- the decided place itself
+-- the entry is the old one at the decided position, except that it is decided
 record IsDecided (lanes : List Place) (k : ℕ) (left : Acc) (j : ℕ) (place : Place) : Type 0 where
   pub old : Place
   pub there : slice_get lanes j ≡ Some old
@@ -92,7 +92,7 @@ module _ (T : Terms) (J : List Event) (lanes : List Place) (are : ArePlacesOf T 
     phase = ready_phase is.claim (before T J (suc j) (account_of T.plan is.claim)) old.phase is.phase;
   }
 
-  -- the places with a decision
+  -- after a decision the entries agree with the journal
   pub places_decision : ArePlacesOf T J (with_decision lanes k left)
   places_decision j place there =
       elim (changed lanes k left j place there) [

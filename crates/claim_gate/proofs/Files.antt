@@ -1,4 +1,4 @@
--- Files of claims, judged one after another.
+-- Claim files, which are validated one after another.
 use Rattle.std.proofs.Common.{◌≡◌, ◌<◌, ◌≤◌, ◌+◌, ℕ, zero, suc, Result, Ok, Err, IfOk, Option, IsSome, List, [], ◌∷◌, ◌++◌, length, take, get_or, Some, None, Bor, true, is_some, refl, sym, ap, subst, ◌∙◌, arith}
 use Rattle.std.specs.List.{All}
 use Rattle.std.specs.Option.{option_copied}
@@ -16,11 +16,11 @@ use Rattle.claim_gate.specs.Terms.{AreFilesOf, IsClaimFile, IsFileCount, texts_o
 use Rattle.faults.specs.declared.terms_fault.TermsFault.{TermsFault}
 use Rattle.faults.specs.declared.terms_fault.TermsFault.TheVariants.{NoRoles, Files, File, Balances, OutOfMemory}
 
--- the text at a place is behind the reference at that place
+-- the text at a place is the one that the reference at the place refers to
 text-at : (files : List (Bor (List ℕ))) (place : ℕ) (d : Bor (List ℕ)) → place < length files → get_or (texts_of files) place d.now ≡ (get_or files place d).now
 text-at files place d within = get_or-map (λ f. f.now) files place d d.now within
 
--- a file of a text is one of claims
+-- the text of a validated file is a valid claim file
 claims-of : (names : List InputData) (text : List ℕ) (file : FileParts) → IsFileOf names text file → IsClaimFile names text
 claims-of names text file is = subst (IsClaimFile names) is.text_is (record { layout = file.layout; records = _; headered_file = is.under })
 
@@ -38,7 +38,7 @@ more names [] (f ∷ files) text file are is = absurd are
 more names (t ∷ texts) [] text file are is = absurd are
 more names (t ∷ texts) (f ∷ files) text file are is = (are.0, more names texts files text file are.1 is)
 
--- with one file more
+-- one more validated file is that of one more text
 pub validated-more : (names : List InputData) (texts : List (Bor (List ℕ))) (place : ℕ) (d : Bor (List ℕ)) (files : List FileParts) (file : FileParts) → place < length texts
     → AreFilesOf names (take place (texts_of texts)) files → IsFileOf names (get_or texts place d).now file → AreFilesOf names (take (place + 1) (texts_of texts)) (files ++ file ∷ [])
 validated-more names texts place d files file within are is =
@@ -46,14 +46,14 @@ validated-more names texts place d files file within are is =
     rw (take_more (texts_of texts) place d.now (omega (arith, size, within)), text-at texts place d within)
     (more names (take place (texts_of texts)) files (get_or texts place d).now file are is)
 
--- all of them
+-- after the last text, the validated files are those of all texts
 pub validated-all : (names : List InputData) (texts : List (Bor (List ℕ))) (place : ℕ) (files : List FileParts) → length texts ≤ place
     → AreFilesOf names (take place (texts_of texts)) files → AreFilesOf names (texts_of texts) files
 validated-all names texts place files past are =
     let size = length-map texts (λ f. f.now) in
     rw (take_all place (texts_of texts) (omega (arith, size, past))) at are
 
--- the first file that is refused
+-- the fault of the first invalid file is the fault of the files
 pub refused-first : (names : List InputData) (texts : List (Bor (List ℕ))) (place : ℕ) (d : Bor (List ℕ)) (files : List FileParts) (fault : TermsFault) → place < length texts
     → AreFilesOf names (take place (texts_of texts)) files → IsFaultOfFile names (place + 1) (get_or texts place d).now fault → IsFaultOfFiles names (texts_of texts) fault
 refused-first names texts place d files NoRoles within before refused = refused
@@ -71,14 +71,14 @@ refused-first names texts place d files (File provider fault) within before refu
       before = are_claim_files names (take place (texts_of texts)) files before;
     }
 
--- as many files as texts
+-- there are as many files as texts
 pub as-many : (names : List InputData) (texts : List (List ℕ)) (files : List FileParts) → AreFilesOf names texts files → length files ≡ length texts
 as-many names [] [] are = refl
 as-many names [] (file ∷ files) are = absurd are
 as-many names (text ∷ texts) [] are = absurd are
 as-many names (text ∷ texts) (file ∷ files) are = ap suc (as-many names texts files are.1)
 
--- the file at a place is that of the text there
+-- the file at a place is that of the text at the place
 pub file-at : (names : List InputData) (texts : List (List ℕ)) (files : List FileParts) (place : ℕ) (d : FileParts) → AreFilesOf names texts files → place < length texts
     → IsFileOf names (get_or texts place []) (get_or files place d)
 file-at names [] files place d are within = absurd (omega (arith, within))
@@ -86,7 +86,7 @@ file-at names (text ∷ texts) [] place d are within = absurd are
 file-at names (text ∷ texts) (file ∷ files) zero d are within = are.0
 file-at names (text ∷ texts) (file ∷ files) (suc place) d are within = file-at names texts files place d are.1 (omega (arith, within))
 
--- the reader of a text's file is at its start, and gives the text's rows
+-- a new reader of a text's file is at the start of the text, and the rows that it has left are those of the text
 pub starts : (names : List InputData) (text : List ℕ) (file : FileParts) → IsFileOf names text file → IsAtStart names text (rows_of file)
 starts names text file is =
     subst (λ t. IsAtStart names t (rows_of file)) is.text_is (record { headered_file = is.under; number = refl; place = refl; stage = refl })
@@ -95,7 +95,7 @@ pub gives-all : (names : List InputData) (text : List ℕ) (file : FileParts) �
 gives-all names text file is all left =
     subst (λ t. AreRowsOf names t all) is.text_is (record { layout = file.layout; records = _; headered_file = is.under; are_rows = left })
 
--- the reader that the file at a place gives
+-- the reader that the file at a place returns is at the start of the text at the place
 pub starts-at : (names : List InputData) (texts : List (List ℕ)) (files : List FileParts) (place : ℕ) (d file : FileParts) (E : Type 0) (result : Result RowsLeft E)
     → AreFilesOf names texts files → place < length texts → file ≡ get_or files place d → IfOk result (λ rows. rows ≡ rows_of file)
     → IfOk result (IsAtStart names (get_or texts place []))
@@ -113,12 +113,12 @@ gives-at names texts files place d file E (Ok rows) are within at is =
     (gives-all names text (get_or files place d) (file-at names texts files place d are within))
 gives-at names texts files place d file E (Err e) are within at is = tt
 
--- a plan whose roles are lent has some
+-- a plan that returns a reference to its roles has roles
 pub have-roles : {A : Type 0} (borrowed : Option (Bor A)) (roles : Option A) → option_copied borrowed ≡ roles → is_some borrowed ≡ true → IsSome roles
 have-roles None roles is some = absurd (false≢true some)
 have-roles (Some lends) roles is some = ap is_some (sym is)
 
--- files that are refused
+-- a fault of the files is a fault of the terms, if the plan has roles and the number of files is allowed
 pub refused-files : (plan : PlanParts) (texts : List (List ℕ)) (balances : Option (List ℕ)) (fault : TermsFault) → IsSome plan.roles → IsFileCount (length texts)
     → IsFaultOfFiles plan.names texts fault → HasTermsFault plan texts balances fault
 refused-files plan texts balances NoRoles roles count refused = absurd refused
@@ -127,7 +127,7 @@ refused-files plan texts balances (File provider fault) roles count refused = (r
 refused-files plan texts balances (Balances fault) roles count refused = absurd refused
 refused-files plan texts balances OutOfMemory roles count refused = tt
 
--- a fault of the balances, behind a plan with roles and files of claims
+-- a fault of the balances is a fault of the terms, if the plan has roles and all files are valid
 pub refused-balances : (plan : PlanParts) (texts : List (List ℕ)) (balances : Option (List ℕ)) (fault : TermsFault) → IsSome plan.roles → IsFileCount (length texts)
     → All (IsClaimFile plan.names) texts → IsFaultOfBalances plan balances fault → HasTermsFault plan texts balances fault
 refused-balances plan texts balances NoRoles roles count claims refused = absurd refused

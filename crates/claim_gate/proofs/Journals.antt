@@ -1,4 +1,4 @@
--- What a journal's parts are with one event more.
+-- The parts of a journal after one more event.
 use Rattle.std.proofs.Common.{◌≡◌, ℕ, ◌+◌, Bool, true, false, ◌||◌, List, [], ◌∷◌, ◌++◌, map, length, refl, sym, ap, ◌∙◌, length-append, append-nil}
 use Rattle.std.specs.List.{list_any, flat_map}
 use Rattle.std.proofs.lemmas.Bool.{or_right, or_left}
@@ -12,12 +12,12 @@ pub or_none : (b : Bool) → (b || false) ≡ b
 or_none true = refl
 or_none false = refl
 
--- a test that the event fails says what it said
+-- an event that fails a test does not change the result for the journal
 pub any_stays : (test : Event → Bool) (J : List Event) (event : Event) → test event ≡ false → list_any test (J ++ event ∷ []) ≡ list_any test J
 any_stays test J event h =
     list_any-append test J (event ∷ []) ∙ ap (λ w. list_any test J || (w || false)) h ∙ or_none (list_any test J)
 
--- a test that the event passes says so
+-- after an event that passes a test, the journal passes it
 pub any_now : (test : Event → Bool) (J : List Event) (event : Event) → test event ≡ true → list_any test (J ++ event ∷ []) ≡ true
 any_now test J event h =
     list_any-append test J (event ∷ []) ∙ or_right (list_any test J) (test event || false) (or_left (test event) false h)

@@ -1,4 +1,4 @@
--- The places stay as far as the journal says.
+-- After each event the phases of the entries agree with the journal.
 use Rattle.std.proofs.Common.{◌≡◌, ℕ, zero, suc, ◌+◌, Bool, true, false, cond, List, [], ◌∷◌, ◌++◌, length, Option, Some, ◌⊎◌, refl, sym, ap, ◌∙◌, inl, inr, arith, eq-eqb, ne_eqb, add-zero, add-one}
 use Rattle.std.specs.List.{count_by}
 use Rattle.std.specs.Option.{option_map_or}
@@ -20,15 +20,15 @@ use Rattle.claim_gate.specs.GateIndex.{is_begun, AreMarked}
 use Rattle.claim_gate.proofs.Tallies.{count_by-yes, count_by-no}
 use Rattle.claim_gate.proofs.Journals.{any_stays, any_now, accepted_more}
 
--- a test of the phase at a position, which fails where there is no place
+-- whether the phase at a position passes a test, which fails where there is no entry
 abbrev tested : (Phase → Bool) → List Place → ℕ → Bool
 tested test lanes k = option_map_or test (phase_at lanes k) false
 
--- how many places are decided
+-- the number of decided entries
 abbrev decisions_in : List Place → ℕ
 decisions_in lanes = count_by (λ place. is_decided place.phase) lanes
 
--- the test says the same of a claim that waits and of one that is ready
+-- the test does not distinguish a waiting claim from a ready one
 abbrev Ignores : (Phase → Bool) → Type 0
 Ignores test = (phase : Phase) → test (ready_at phase) ≡ test phase
 
@@ -44,7 +44,7 @@ decided_ignores (Ready claim) = refl
 decided_ignores InWork = refl
 decided_ignores (Decided left) = refl
 
--- one place more, that fails the test
+-- an added entry that fails the test changes the result at no position
 tested_push : (test : Phase → Bool) (lanes : List Place) (place : Place) → test place.phase ≡ false
     → (k : ℕ) → tested test (lanes ++ place ∷ []) k ≡ tested test lanes k
 tested_push test [] place h zero = h
@@ -52,7 +52,7 @@ tested_push test [] place h (suc k) = refl
 tested_push test (x ∷ lanes) place h zero = refl
 tested_push test (x ∷ lanes) place h (suc k) = tested_push test lanes place h k
 
--- another phase at one position
+-- another phase at one position keeps the number of entries
 pub length-with_phase : (lanes : List Place) (k : ℕ) (phase : Phase) → length (with_phase lanes k phase) ≡ length lanes
 length-with_phase [] k phase = refl
 length-with_phase (x ∷ lanes) zero phase = refl
@@ -83,7 +83,7 @@ decisions-with_phase (x ∷ lanes) (suc k) old phase h same =
     ∙ ap (λ n. cond (is_decided x.phase) 1 0 + n) (decisions-with_phase lanes k old phase h same)
     ∙ sym (sum_by-cons (λ place. cond (is_decided place.phase) 1 0) x lanes)
 
--- the next place of a family is ready
+-- if the test holds, the first entry becomes ready; otherwise these others come after it
 abbrev or_released : Bool → Place → List Place → List Place → List Place
 or_released b x lanes rest = cond b (record x { phase = ready_at x.phase } ∷ lanes) (x ∷ rest)
 
@@ -122,7 +122,7 @@ decisions-released : (member : List ℕ) (lanes : List Place) → decisions_in (
 decisions-released member [] = refl
 decisions-released member (x ∷ lanes) = decisions_or (is_of member x) x lanes (release_first member lanes) (decisions-released member lanes)
 
--- a decision at one position
+-- a decision at one position keeps the number of entries
 length-with_decision : (lanes : List Place) (k : ℕ) (left : Acc) → length (with_decision lanes k left) ≡ length lanes
 length-with_decision [] k left = refl
 length-with_decision (x ∷ lanes) zero left = ap suc (length-released x.account.family lanes)
@@ -163,7 +163,7 @@ decisions_stay J event h =
     ∙ ap (λ b. count_by is_any_decision J + cond b 1 0) h
     ∙ add-zero (count_by is_any_decision J)
 
--- an event that is no accept, no take and no decision
+-- the phases agree with the journal after an event that is no acceptance, no take and no decision
 pub marked_stay : (J : List Event) (lanes : List Place) (event : Event) → AreMarked J lanes
     → accept_in event ≡ [] → ((k : ℕ) → is_take k event ≡ false) → ((k : ℕ) → is_decide k event ≡ false) → is_any_decision event ≡ false
     → AreMarked (J ++ event ∷ []) lanes
@@ -174,7 +174,7 @@ marked_stay J lanes event M no_accept no_take no_decide no_decision = record {
   decisions = decisions_stay J event no_decision ∙ M.decisions;
 }
 
--- an accept, with a place that is neither taken nor decided
+-- they agree after an acceptance, with the entry of a claim that is neither taken nor decided
 pub marked_accept : (J : List Event) (lanes : List Place) (provider place : ℕ) (next : Place) → AreMarked J lanes
     → is_begun next.phase ≡ false → is_decided next.phase ≡ false → AreMarked (J ++ Accept provider place ∷ []) (lanes ++ next ∷ [])
 marked_accept J lanes provider place next M not_begun undecided =
@@ -192,7 +192,7 @@ marked_accept J lanes provider place next M not_begun undecided =
           ∙ add-zero (decisions_in lanes));
     }
 
--- what a test says of a phase that there may be
+-- whether an optional phase passes a test
 abbrev said : (Phase → Bool) → Option Phase → Bool
 said test phase = option_map_or test phase false
 
@@ -216,7 +216,7 @@ undecided_still lanes k old there undecided j (inl e) =
 undecided_still lanes k old there undecided j (inr other) =
     ap (said is_decided) (sym (phase_elsewhere lanes k j InWork (λ e. other (sym e))))
 
--- a take of a claim that is neither taken nor decided
+-- they agree after the take of a claim that is neither taken nor decided
 pub marked_take : (J : List Event) (lanes : List Place) (k : ℕ) (old : Phase) → AreMarked J lanes
     → phase_at lanes k ≡ Some old → is_begun old ≡ false → is_decided old ≡ false → AreMarked (J ++ Take k ∷ []) (with_phase lanes k InWork)
 marked_take J lanes k old M there not_begun undecided = record {
@@ -245,7 +245,7 @@ decided_now J lanes k outcome left M there j (inr other) =
     ∙ M.decided_are j
     ∙ sym (decision_elsewhere is_decided decided_ignores lanes k j left (λ e. other (sym e)))
 
--- a decision of a claim in work
+-- they agree after the decision of a claim in work
 pub marked_decision : (J : List Event) (lanes : List Place) (k : ℕ) (outcome : Outcome) (left : Acc) → AreMarked J lanes
     → phase_at lanes k ≡ Some InWork → AreMarked (J ++ Decide k outcome ∷ []) (with_decision lanes k left)
 marked_decision J lanes k outcome left M there = record {

@@ -1,4 +1,4 @@
--- The intakes stay as far as the journal says, and the close is due where they say so.
+-- After each event the progress of the files agrees with the journal, and it implies whether the close is due.
 use Rattle.std.proofs.Common.{◌≡◌, ℕ, zero, suc, ◌<◌, ◌≤◌, ◌+◌, ◌==◌, Bool, true, false, ◌&&◌, ◌||◌, cond, List, [], ◌∷◌, ◌++◌, take, length, get_or, set, ◌⊎◌, refl, sym, ap, ◌∙◌, subst, inl, inr, arith, add-zero, add-one, eq-eqb, ne_eqb, length-set}
 use Rattle.std.specs.List.{count_by, list_all, AllZip}
 use Rattle.std.proofs.lemmas.Bool.{both_ways, cases_eq, cases_lt, cond-true, cond-false}
@@ -16,7 +16,7 @@ use Rattle.claim_gate.specs.Intakes.{no_intake, intake_of, one_more, at_end, wit
 use Rattle.claim_gate.specs.GateIndex.{IsIntakeOf, AreIntakesOf, is_due}
 use Rattle.claim_gate.proofs.Journals.{any_stays, any_now, places_more, places_stay}
 
--- how many of these providers have ended
+-- the number of providers that have ended
 abbrev ends_in : List Intake → ℕ
 ends_in intakes = count_by (λ x. x.ended) intakes
 
@@ -26,7 +26,7 @@ ends_stay J event h =
     ∙ ap (λ b. count_by is_any_end J + cond b 1 0) h
     ∙ add-zero (count_by is_any_end J)
 
--- an event that is no accept of this provider and no end of it
+-- the progress of a provider agrees after an event that is no acceptance and no end of this provider
 intake_stays : (J : List Event) (event : Event) (provider : ℕ) (intake : Intake) → place_in provider event ≡ [] → is_end provider event ≡ false
     → IsIntakeOf J provider intake → IsIntakeOf (J ++ event ∷ []) provider intake
 intake_stays J event provider intake no_place no_end is = record {
@@ -34,7 +34,7 @@ intake_stays J event provider intake no_place no_end is = record {
   ended_is = is.ended_is ∙ sym (any_stays (is_end provider) J event no_end);
 }
 
--- an event that is no accept and no end
+-- the progress of all providers agrees after an event that is no acceptance and no end
 pub intakes_stay : (J : List Event) (providers : ℕ) (intakes : List Intake) (event : Event) → AreIntakesOf J providers intakes
     → ((p : ℕ) → place_in p event ≡ []) → ((p : ℕ) → is_end p event ≡ false) → is_any_end event ≡ false → AreIntakesOf (J ++ event ∷ []) providers intakes
 intakes_stay J providers intakes event I no_place no_end no_ends = record {
@@ -43,7 +43,7 @@ intakes_stay J providers intakes event I no_place no_end no_ends = record {
   ends = ends_stay J event no_ends ∙ I.ends;
 }
 
--- as many end where one intake is set to another one that is as far from its end
+-- another progress of a provider keeps the number of ended providers, if the provider has ended in both or in neither
 ends-set : (intakes : List Intake) (i : ℕ) (intake d : Intake) → intake.ended ≡ (get_or intakes i d).ended → ends_in (set intakes i intake) ≡ ends_in intakes
 ends-set [] i intake d same = refl
 ends-set (x ∷ intakes) zero intake d same =
@@ -55,7 +55,7 @@ ends-set (x ∷ intakes) (suc i) intake d same =
     ∙ ap (λ n. cond x.ended 1 0 + n) (ends-set intakes i intake d same)
     ∙ sym (sum_by-cons (λ y. cond y.ended 1 0) x intakes)
 
--- the accept of a provider's claim is none of another provider's
+-- the acceptance of a provider's claim is not one of another provider's claim
 no_place : (p q place : ℕ) → (p ≡ q → ⊥) → place_in q (Accept p place) ≡ []
 no_place p q place other = cond-false (p == q) (place ∷ []) [] (ne_eqb p q other)
 
@@ -108,7 +108,7 @@ module _ (J : List Event) (providers : ℕ) (intakes : List Intake) (I : AreInta
       (intake_stays J (End (suc q)) (suc i) (get_or intakes i no_intake) refl
       (ne_eqb (suc q) (suc i) (λ e. other (omega arith))) (I.each i below))
 
-  -- a claim more of a provider is accepted
+  -- the progress agrees after a claim of a provider is accepted
   pub intakes_accept : (provider place : ℕ) → AreIntakesOf (J ++ Accept provider place ∷ []) providers (with_accept intakes provider)
   intakes_accept zero place = record {
     as_many = I.as_many;
@@ -124,7 +124,7 @@ module _ (J : List Event) (providers : ℕ) (intakes : List Intake) (I : AreInta
         ∙ sym (ends-set intakes q (one_more (get_or intakes q no_intake)) no_intake refl);
   }
 
-  -- there is an intake of a provider that has not ended
+  -- a provider that has not ended is one of the run
   open_within : (q : ℕ) → (get_or intakes q no_intake).ended ≡ false → q < length intakes
   open_within q yet =
       elim (cases_lt q (length intakes)) [
@@ -132,7 +132,7 @@ module _ (J : List Event) (providers : ℕ) (intakes : List Intake) (I : AreInta
         | inr past ↦ absurd (both_ways (get_or intakes q no_intake).ended yet (ap (λ (x : Intake). x.ended) (get_or_past intakes q no_intake past)))
       ]
 
-  -- a provider ends
+  -- the progress agrees after a provider ends
   pub intakes_end : (provider : ℕ) → (intake_of intakes provider).ended ≡ false → AreIntakesOf (J ++ End provider ∷ []) providers (with_end intakes provider)
   intakes_end zero yet = absurd (both_ways true yet refl)
   intakes_end (suc q) yet =
@@ -148,7 +148,7 @@ module _ (J : List Event) (providers : ℕ) (intakes : List Intake) (I : AreInta
         ends = sum_by_push (λ e. cond (is_any_end e) 1 0) J (End (suc q)) ∙ ap (λ n. n + 1) I.ends ∙ sym one;
       }
 
-  -- the intake of a provider
+  -- the progress of each provider of the run agrees with the journal
   pub intake_known : (provider : ℕ) → 1 ≤ provider → provider ≤ providers → IsIntakeOf J provider (intake_of intakes provider)
   intake_known zero least most = let never : ⊥ = omega arith in absurd never
   intake_known (suc q) least most = I.each q (omega arith)
@@ -181,11 +181,11 @@ files_of R [] (y ∷ ys) h = absurd h
 files_of R (x ∷ xs) [] h = absurd h
 files_of R (x ∷ xs) (y ∷ ys) h = ap suc (files_of R xs ys h.1)
 
--- there is a file of claims for each text
+-- there is a list of claims for each text
 pub as_many_files : (terms : TermsParts) (T : Terms) → IsTermsOf terms T → length T.files ≡ length terms.files
 as_many_files terms T is = files_of (AreClaimsOf terms.plan.names) terms.files T.files is.files
 
--- the intake of one of the terms' providers
+-- the progress of each provider of the terms agrees with the journal
 pub known_intake : (terms : TermsParts) (T : Terms) (J : List Event) (intakes : List Intake) (provider : ℕ) → IsTermsOf terms T
     → AreIntakesOf J (length terms.files) intakes → IsProvider T provider → IsIntakeOf J provider (intake_of intakes provider)
 known_intake terms T J intakes provider is I known =
@@ -193,7 +193,7 @@ known_intake terms T J intakes provider is I known =
     let most : provider ≤ length T.files = known.most in
     intake_known J (length terms.files) intakes I provider known.least (omega arith)
 
--- the close is due where the intakes and the number of accepts say so
+-- the close is due exactly where the progress and the number of accepted claims imply it
 pub due_is : (terms : TermsParts) (T : Terms) (J : List Event) (intakes : List Intake) → IsTermsOf terms T
     → AreIntakesOf J (length terms.files) intakes → due T J ≡ is_due terms (accepted_count J) intakes
 due_is terms T J intakes is I =

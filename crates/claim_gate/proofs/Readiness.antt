@@ -1,4 +1,4 @@
--- Which claims may be taken, as the places say and as the journal says.
+-- The claims that may be taken are the same by the entries and by the journal.
 use Rattle.std.proofs.Common.{◌≡◌, ℕ, zero, suc, ◌<◌, ◌≤◌, Bool, true, false, not, ◌||◌, List, [], ◌∷◌, take, length, get_or, Option, Some, None, option_map, refl, sym, ap, ◌∙◌, subst, arith}
 use Rattle.std.specs.List.{slice_get}
 use Rattle.std.specs.Option.{option_map_or}
@@ -23,7 +23,7 @@ use Rattle.journal.specs.declared.event.Event.{Event}
 use Rattle.claim_gate.specs.GateIndex.{is_begun, IsPhaseOf, ArePlacesOf, AreMarked}
 use Rattle.claim_gate.proofs.Claims.{nowhere, other_of, comes_before}
 
--- another phase at a position changes no place in front of it, and no member
+-- another phase at a position changes no entry before the position
 front_stays : (lanes : List Place) (k : ℕ) (phase : Phase) → take k (with_phase lanes k phase) ≡ take k lanes
 front_stays [] zero phase = refl
 front_stays [] (suc k) phase = refl
@@ -35,7 +35,7 @@ place_here [] k phase place h = absurd (none-some place h)
 place_here (x ∷ lanes) zero phase place h = ap (λ (p : Place). Some (record p { phase = phase })) (same_Some x place h)
 place_here (x ∷ lanes) (suc k) phase place h = place_here lanes k phase place h
 
--- a place with a phase
+-- the entry at the position, which is in this phase
 pub record HasPlace (lanes : List Place) (k : ℕ) (phase : Phase) : Type 0 where
   pub place : Place
   pub there : slice_get lanes k ≡ Some place
@@ -49,20 +49,20 @@ pub has_place : (lanes : List Place) (k : ℕ) (phase : Phase) → phase_at lane
 has_place lanes k phase h = has_place_by (slice_get lanes k) lanes k phase refl h
 
 module _ (T : Terms) (J : List Event) (lanes : List Place) (marked : AreMarked J lanes) (are : ArePlacesOf T J lanes) where
-  -- the place is the member's whose claim stands at its position
+  -- the family of an entry is that of the claim at its position
   member_is : (k : ℕ) (place : Place) → slice_get lanes k ≡ Some place → lane_at T J k ≡ Some place.account.family
   member_is k place there =
       let is = are k place there in
       ap (option_map family_of) is.located ∙ ap (λ (a : Account). Some a.family) (sym is.account)
 
-  -- the journal has the decision of a position where its place is decided
+  -- the journal has a decision of a position exactly where the entry at the position is decided
   decided_is : (k : ℕ) (place : Place) → slice_get lanes k ≡ Some place → has_decision J k ≡ is_decided place.phase
   decided_is k place there = marked.decided_are k ∙ ap (λ o. option_map_or is_decided (option_map (λ p. p.phase) o) false) there
 
   taken_is : (k : ℕ) (place : Place) → slice_get lanes k ≡ Some place → has_take J k ≡ is_begun place.phase
   taken_is k place there = marked.taken_are k ∙ ap (λ o. option_map_or is_begun (option_map (λ p. p.phase) o) false) there
 
-  -- where each place of the member in front is decided, so is each of its claims
+  -- if each earlier entry of a family is decided, so is each of its earlier claims
   turn_from_places : (member : List ℕ) (k : ℕ) → k ≤ length lanes → all_decided member (take k lanes) ≡ true
       → (j : ℕ) → j < k → lane_at T J j ≡ Some member → has_decision J j ≡ true
   turn_from_places member k within h j below its =
@@ -87,7 +87,7 @@ module _ (T : Terms) (J : List Event) (lanes : List Place) (marked : AreMarked J
   place_in_turn member k turn j place below there false other =
       or_left (not (is_of member place)) (is_decided place.phase) (not_from_false (is_of member place) other)
 
-  -- and the other way round
+  -- if each earlier claim of a family is decided, so is each of its earlier entries
   places_from_turn : (member : List ℕ) (k : ℕ) → k ≤ length lanes → ((j : ℕ) → j < k → lane_at T J j ≡ Some member → has_decision J j ≡ true)
       → all_decided member (take k lanes) ≡ true
   places_from_turn member k within turn =
@@ -100,7 +100,7 @@ module _ (T : Terms) (J : List Event) (lanes : List Place) (marked : AreMarked J
       subst (λ p. (not (is_of member p) || is_decided p.phase) ≡ true) (sym same)
       (place_in_turn member k turn j (get_or lanes j nowhere) below there (is_of member (get_or lanes j nowhere)) refl))
 
-  -- a place that is ready is the job of its position
+  -- the claim that is picked is ready, and it is the job at its position
   pub ready_is_work : (stopped : Bool) (picked : ReadyClaim) (acc : Acc) → InTurn (with_phase lanes picked.position InWork) → IsPicked lanes picked
       → acc ≡ started (opening T.balances (account_of T.plan picked.claim)) picked.own picked.family_year
       → IsWork (record { terms = T; journal = J; stopped = stopped }) picked.position picked.claim acc
@@ -144,7 +144,7 @@ module _ (T : Terms) (J : List Event) (lanes : List Place) (marked : AreMarked J
     unready_by k place InWork there is unready r = both_ways (has_take J k) r.once (taken_is k place there ∙ ap is_begun is)
     unready_by k place (Decided left) there is unready r = both_ways (has_take J k) r.once (taken_is k place there ∙ ap is_begun is)
 
-    -- where no place is ready, no claim may be taken
+    -- if no entry is ready, no claim may be taken
     pub nothing_is_ready : NothingReady lanes → (k : ℕ) → ¬ IsReady T J k
     nothing_is_ready none k r =
         let many : length lanes ≡ accepted_count J = marked.as_many in

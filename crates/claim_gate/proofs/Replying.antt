@@ -1,4 +1,4 @@
--- What the calls of a gate answer, by what it keeps.
+-- How the results of a gate's calls follow from its indexes.
 use Rattle.std.proofs.Common.{◌≡◌, ℕ, zero, suc, ◌<◌, ◌≤◌, ◌+◌, ◌==◌, ◌&&◌, Bool, true, false, List, [], ◌∷◌, ◌++◌, length, get_or, replicate, cond, Option, Some, None, option_map, IsSome, IsTrue, refl, sym, ap, ◌∙◌, subst, inl, inr, arith, length-append, append_assoc}
 use Rattle.std.specs.Borrow.{Bor}
 use Rattle.std.specs.List.{count_by, list_all, slice_get}
@@ -45,25 +45,25 @@ use Rattle.claim_gate.proofs.Claims.{nowhere}
 use Rattle.claim_gate.proofs.Providers.{known_intake}
 use Rattle.claim_gate.proofs.Tallies.{all_by_count}
 
--- a journal with an event more goes on, with the close or without
+-- an event continues a journal, with or without the close after it
 event_goes_on : (b : Bool) (J : List Event) (event : Event) → Continues J (closed_where b (J ++ event ∷ []))
 event_goes_on true J event = record { rest = event ∷ Close ∷ []; whole = append_assoc J (event ∷ []) (Close ∷ []) }
 event_goes_on false J event = record { rest = event ∷ []; whole = refl }
 
--- what contracts see of a gate with these fields
+-- the gate with these fields, as contracts see it
 abbrev pub seen : Inside → GateParts
 seen s = record { terms = s.terms.now; journal = s.journal.items; stopped = s.stopped }
 
--- what it keeps is as its journal says
+-- the indexes of the gate agree with its journal
 abbrev pub Keeps : Inside → Type 0
 Keeps s = IsKept s.terms.now s.journal.items s.lanes s.intakes s.closed s.decisions
 
--- a journal and places that stayed as they were
+-- the indexes agree with the journal if neither it nor the entries have changed
 pub kept_alike : (s : Inside) (J : List Event) (lanes : List Place) → J ≡ s.journal.items → lanes ≡ s.lanes → Keeps s
     → IsKept s.terms.now J lanes s.intakes s.closed s.decisions
 kept_alike s J lanes journal_is lanes_are kept = rw (journal_is, lanes_are) kept
 
--- a gate that stayed as it was
+-- a gate that has not changed leads to itself
 pub leads_alike : (old new : GateParts) → new ≡ old → LeadsTo old new
 leads_alike old new same = subst (λ g. LeadsTo old g) (sym same) (leads_itself old)
 
@@ -95,7 +95,7 @@ places_within (event ∷ J) provider =
     length-append (place_in provider event) (places J provider) in
     omega arith
 
--- no more claims of a provider are accepted than the journal has events
+-- a journal has at least as many events as a provider has accepted claims
 pub accepted_within : (J : List Event) (providers : ℕ) (intakes : List Intake) (provider : ℕ) → AreIntakesOf J providers intakes → (intake_of intakes provider).accepted ≤ length J
 accepted_within J providers intakes zero I = omega arith
 accepted_within J providers intakes (suc q) I =
@@ -112,7 +112,7 @@ accepted_within J providers intakes (suc q) I =
     ]
 
 module _ (J : List Event) (lanes : List Place) (marked : AreMarked J lanes) where
-  -- the place at an accepted position
+  -- there is an entry at each accepted position
   accepted_place : (k : ℕ) → k < accepted_count J → slice_get lanes k ≡ Some (get_or lanes k nowhere)
   accepted_place k below =
       let many : length lanes ≡ accepted_count J = marked.as_many in
@@ -136,7 +136,7 @@ module _ (J : List Event) (lanes : List Place) (marked : AreMarked J lanes) wher
       let below : k < accepted_count J = omega arith in
       sym (decided_place k below) ∙ every k below)
 
-  -- whether as many are decided as accepted says whether the journal is closed and each claim decided
+  -- if the journal is closed, it is over exactly if as many claims are decided as are accepted
   pub over_by_count : (decisions count : ℕ) → closed J ≡ true → decisions ≡ count_by is_any_decision J → count ≡ length lanes
       → (IsTrue (decisions == count) → IsOver J) × (IsOver J → IsTrue (decisions == count))
   over_by_count decisions count is_closed counted long =
@@ -154,7 +154,7 @@ module _ (s : Inside) (g : GateParts) (is : seen s ≡ g) (kept : Keeps s) where
   still_open : s.closed ≡ false → closed s.journal.items ≡ false
   still_open h = sym kept.closed_is ∙ h
 
-  -- an offer at another place
+  -- an offer at another place than the provider's next one is refused
   pub out_of_turn : (offer : Offer) (expected : ℕ) → ForTerms g.terms (λ T. IsFiled T offer) → s.stopped ≡ false → s.closed ≡ false
       → expected ≡ (intake_of s.intakes offer.provider).accepted → (offer.place ≡ expected → ⊥)
       → ForTerms g.terms (λ T. Offers (at T g) offer.provider offer.place (OfferReply.OutOfTurn expected) (at T g))
@@ -166,7 +166,7 @@ module _ (s : Inside) (g : GateParts) (is : seen s ≡ g) (kept : Keeps s) where
       ((runs, still_open open_yet), expects ∙ intake.accepted_is, other, refl))
       filed
 
-  -- an offer at the next place
+  -- an offer at the provider's next place is in turn
   pub in_turn : (offer : Offer) (expected : ℕ) → ForTerms g.terms (λ T. IsFiled T offer)
       → expected ≡ (intake_of s.intakes offer.provider).accepted → offer.place ≡ expected
       → ForTerms g.terms (λ T. offer.place ≡ length (places g.journal offer.provider))
@@ -188,7 +188,7 @@ module _ (s : Inside) (g : GateParts) (is : seen s ≡ g) (kept : Keeps s) where
   over_seen h = subst (λ w. IsOver w.journal) is h
 
   module _ (offer : Offer) (position year : ℕ) (J1 J2 : List Event) (lanes : List Place) (intakes : List Intake) (b : Bool) where
-    -- a claim that is accepted
+    -- the gate after it has accepted a claim
     pub record IsAccepted : Type 0 where
       pub keeps : IsKept s.terms.now J2 lanes intakes b s.decisions
       pub reply : ForTerms g.terms (λ T. Offers (at T g) offer.provider offer.place (OfferReply.Accepted position) (gate_of T J2))
@@ -232,7 +232,7 @@ module _ (s : Inside) (g : GateParts) (is : seen s ≡ g) (kept : Keeps s) where
               (subst (Continues s.journal.items) (sym journal') (event_goes_on b s.journal.items (Accept offer.provider offer.place)));
         }
 
-  -- an end with too few claims
+  -- an end is refused if too few claims of the provider are accepted
   pub too_few : (provider count expected : ℕ) → ForTerms g.terms (λ T. HasClaims T provider count) → s.stopped ≡ false → s.closed ≡ false
       → expected ≡ (intake_of s.intakes provider).accepted → expected < count
       → ForTerms g.terms (λ T. Ends (at T g) provider count (EndReply.OutOfTurn expected) (at T g))
@@ -243,7 +243,7 @@ module _ (s : Inside) (g : GateParts) (is : seen s ≡ g) (kept : Keeps s) where
       ((runs, still_open open_yet), expects ∙ intake.accepted_is, few, refl))
       known
 
-  -- an end that there was before
+  -- an end is refused if the provider has already ended
   pub ended_before : (provider count expected : ℕ) → ForTerms g.terms (λ T. HasClaims T provider count) → s.stopped ≡ false → s.closed ≡ false
       → expected ≡ (intake_of s.intakes provider).accepted → count ≤ expected → true ≡ (intake_of s.intakes provider).ended
       → ForTerms g.terms (λ T. Ends (at T g) provider count EndReply.AlreadyEnded (at T g))
@@ -257,7 +257,7 @@ module _ (s : Inside) (g : GateParts) (is : seen s ≡ g) (kept : Keeps s) where
       known
 
   module _ (provider count expected : ℕ) (J1 J2 : List Event) (intakes : List Intake) (b : Bool) where
-    -- a provider that ends
+    -- the gate after a provider has ended
     pub record IsEnded : Type 0 where
       pub keeps : IsKept s.terms.now J2 s.lanes intakes b s.decisions
       pub reply : ForTerms g.terms (λ T. Ends (at T g) provider count EndReply.Ended (gate_of T J2))
@@ -292,13 +292,13 @@ module _ (s : Inside) (g : GateParts) (is : seen s ≡ g) (kept : Keeps s) where
               subst (λ w. Continues w.journal J2) is (subst (Continues s.journal.items) (sym journal') (event_goes_on b s.journal.items (End provider)));
         }
 
-  -- nothing is left to do
+  -- `take` returns `Over` if the journal is over
   pub is_over : s.stopped ≡ false → IsOver g.journal → ForTerms g.terms (λ T. Takes (at T g) TakeReply.Over (at T g))
   is_over runs over =
       subst (λ w. ForTerms w.terms (λ T. Takes (at T w) TakeReply.Over (at T w))) is
       (λ T terms. take_over s.terms.now s.journal.items s.stopped s.lanes s.intakes s.closed s.decisions kept T terms runs (over_so over))
 
-  -- nothing may be taken now
+  -- `take` returns `NothingReady` if no entry is ready
   pub nothing_ready : (J2 : List Event) (lanes : List Place) → InTurn lanes → lanes ≡ s.lanes → s.stopped ≡ false → (IsOver g.journal → ⊥) → NothingReady s.lanes → J2 ≡ s.journal.items
       → ForTerms g.terms (λ T. Takes (at T g) TakeReply.NothingReady (gate_of T J2))
   nothing_ready J2 lanes turns lanes_are runs not_over none same =
@@ -308,7 +308,7 @@ module _ (s : Inside) (g : GateParts) (is : seen s ≡ g) (kept : Keeps s) where
       (take_nothing s.terms.now s.journal.items s.stopped s.lanes s.intakes s.closed s.decisions kept T terms (subst InTurn lanes_are turns) runs (λ h. not_over (over_seen h)) none))
 
   module _ (picked : ReadyClaim) (acc : Acc) (J2 : List Event) (lanes : List Place) where
-    -- a claim that is taken
+    -- the gate after a claim is taken
     pub record IsTaken : Type 0 where
       pub keeps : IsKept s.terms.now J2 lanes s.intakes s.closed s.decisions
       pub reply : ForTerms g.terms (λ T. Takes (at T g) (TakeReply.Work picked.position picked.claim acc) (gate_of T J2))
@@ -331,7 +331,7 @@ module _ (s : Inside) (g : GateParts) (is : seen s ≡ g) (kept : Keeps s) where
               (λ T terms. subst (λ j. Takes (at T (seen s)) (TakeReply.Work picked.position picked.claim acc) (gate_of T j)) (sym journal_is) (answers T terms));
         }
 
-  -- a decision that is recorded
+  -- the indexes agree with the journal after a decision is recorded
   pub records : (job : Job) (outcome : Outcome) (left : Acc) (J2 : List Event) (lanes : List Place) → FinishGoes
       → g.stopped ≡ false → has_decision g.journal job.position ≡ false → has_take g.journal job.position ≡ true
       → ForTerms g.terms (λ T. IsJob T g.journal job.position job.claim job.acc) → outcome ≡ outcome_of g.terms.plan job.claim job.acc
@@ -349,20 +349,20 @@ module _ (s : Inside) (g : GateParts) (is : seen s ≡ g) (kept : Keeps s) where
       subst (λ j. IsKept s.terms.now j lanes s.intakes s.closed (s.decisions + 1)) (sym journal_is)
       (subst (λ l. IsKept s.terms.now (s.journal.items ++ Decide job.position outcome ∷ []) l s.intakes s.closed (s.decisions + 1)) (sym lanes_are) keeps)
 
--- a settlement's outcome leaves accumulators
+-- there are accumulators after the outcome of a settlement
 pub settles : (plan : PlanParts) (claim : Claim) (acc : Acc) (decided_so : Outcome) (left : Option Acc)
     → ((p : PlanParts) (c : Claim) → decided_so ≡ outcome p c acc → IsSome left) → decided_so ≡ outcome_of plan claim acc → IsSome left
 unfolding outcome_of
 settles plan claim acc decided_so left h e = h plan claim e
 
--- and which
+-- they are the accumulators before it with the outcome's amounts added
 pub left_is : (acc : Acc) (decided_so : Outcome) (o : Option Acc) (left : Acc) → SomeIff o (AreInRange (after acc decided_so)) (after acc decided_so)
     → o ≡ Some left → left ≡ accumulated true true acc decided_so
 unfolding accumulated
 left_is acc decided_so None left h e = absurd (none-some left e)
 left_is acc decided_so (Some x) left h e = sym (same_Some x left e) ∙ h.1
 
--- a gate that nothing was offered yet: what it keeps is as its journal says, and that is the first one
+-- the indexes of a new gate agree with its journal, which is the first one
 pub record IsStarted (terms : TermsParts) (J : List Event) (lanes : List Place) (intakes : List Intake) (b : Bool) : Type 0 where
   pub keeps : IsKept terms J lanes intakes b 0
   pub journal : J ≡ first_journal terms.cutoff
@@ -384,15 +384,15 @@ starts terms files J1 J2 lanes intakes b lawful are files_are no_lanes intakes_a
       journal = alone ∙ first_is terms lawful b are.count.least due;
     }
 
--- a gate that runs, with a journal
+-- the gate with this journal, which is not stopped
 abbrev pub running : TermsParts → List Event → GateParts
 running terms J = record { terms = terms; journal = J; stopped = false }
 
--- a journal that is over is finished
+-- a lawful journal that is over is finished
 pub over_finished : (T : Terms) (J K : List Event) → K ≡ J → Lawful T J → IsOver J → Finished T K
 over_finished T J K same lawful over = subst (Finished T) (sym same) (record { lawful = lawful; closed = over.closed; all = over.all })
 
--- where the last of the account and of its household left something, what the account began with is no part of it
+-- if the account and its family have earlier claims in the year, the opening balance makes no difference
 pub begun_alike : (own family_year : Option Acc) (a b : Acc) → (is_some own && is_some family_year) ≡ true → started a own family_year ≡ started b own family_year
 begun_alike None family_year a b h = absurd (both_ways false refl h)
 begun_alike (Some x) None a b h = absurd (both_ways false refl h)

@@ -1,4 +1,4 @@
--- Calls of a gate behind a lock, by those of the gate of one thread.
+-- How the contracts of the shared gate follow from those of the sequential gate.
 use Rattle.std.proofs.Common.{◌≡◌, ◌+◌, ◌∙◌, ℕ, refl, sym, ap, inl, inr, subst}
 use Rattle.claim_gate.specs.Terms.{ForTerms, IsTermsOf, TermsParts}
 use Rattle.settlement.specs.declared.acc.Acc.{Acc}
@@ -20,18 +20,18 @@ use Rattle.journal.specs.Gate.{Continues}
 use Rattle.journal.specs.declared.event.Event.{Event}
 use Rattle.claim_gate.specs.Shared.{HadSection, HaveMet, InTurn, IsLawful, Known, is_past}
 
--- what leads to another state as contracts see the two does so as journals see them
+-- a state that leads to another one as contracts see the two also does so as journals see them
 pub leads_at : (T : Terms) (earlier later : GateParts) → LeadsTo earlier later → LeadsTo (at T earlier) (at T later)
 leads_at T earlier later leads = record { terms = refl; journal = leads.journal; stop = λ stopped. ap (at T) (leads.stop stopped) }
 
--- a job that the caller has seen is one in the state that is found
+-- a job in the state that the caller has seen is a job in the state that the section finds
 pub job_stays :
     JobsAreStable → (seen found : GateParts) (position : ℕ) (claim : Claim) (acc : Acc) → LeadsTo seen found
     → ForTerms seen.terms (λ T. IsJob T seen.journal position claim acc) → ForTerms found.terms (λ T. IsJob T found.journal position claim acc)
 job_stays stay seen found position claim acc leads job =
     λ T is. stay (at T seen) (at T found) position claim acc (leads_at T seen found leads) (job T (subst (λ terms. IsTermsOf terms T) leads.terms is))
 
--- a section, from what it found and what it left
+-- the caller has had a section, by the state that it found and the state that it left
 pub had_section :
     (before after : Known) (found left : GateParts) → after.found ≡ found → after.seen ≡ left → LeadsTo before.seen found → IsLawful found
     → LeadsTo found left → IsLawful left → after.tally ≡ before.tally + 1 → HadSection before after
@@ -43,7 +43,7 @@ had_section before after found left found_is left_is fresh found_lawful grown le
   tally = tally;
 }
 
--- passes of a lock that have met, as callers of the gate behind it
+-- passes of the lock that have met have also met as passes of the gate that it protects
 pub met_known :
     {V : Type 0} (leads : V → V → Type 0) (shown : V → GateParts) → ((earlier later : V) → leads earlier later → LeadsTo (shown earlier) (shown later)) → (one other both : Seen V)
     → HasMet leads one other both → HaveMet (known_by shown one) (known_by shown other) (known_by shown both)
@@ -53,12 +53,12 @@ met_known leads shown shows one other both met =
       | inr is ↦ record { later = inr (ap (λ k. shown k.seen) is.1, shows one.seen other.seen is.0); found = ap (λ k. shown k.last) is.1; tally = ap (λ k. k.ended) is.1 }
     ]
 
--- what a journal has a longer one has
+-- if an event of a journal passes a test, so does an event of each continuation of the journal
 any_goes_on : (test : Event → Bool) (J K : List Event) → Continues J K → list_any test J ≡ true → list_any test K ≡ true
 any_goes_on test J K on h =
     subst (λ w. list_any test w ≡ true) (sym on.whole) (list_any-append test J on.rest ∙ or_left (list_any test J) (list_any test on.rest) h)
 
--- a provider that is past stays so
+-- a provider of which no more claims are accepted remains one
 pub past_stays : (seen found : GateParts) (q : ℕ) → LeadsTo seen found → is_past seen q ≡ true → is_past found q ≡ true
 past_stays seen found q leads past = elim (or_cases (seen.stopped || closed seen.journal) (has_end seen.journal q) past) [
   | inl shut ↦ or_left (found.stopped || closed found.journal) (has_end found.journal q) (elim (or_cases seen.stopped (closed seen.journal) shut) [
@@ -68,7 +68,7 @@ past_stays seen found q leads past = elim (or_cases (seen.stopped || closed seen
   | inr has_ended ↦ or_right (found.stopped || closed found.journal) (has_end found.journal q) (any_goes_on (is_end q) seen.journal found.journal leads.journal has_ended)
 ]
 
--- what is in turn by what was seen is so by what is found
+-- a provider that is in turn in the state seen is also in turn in the state found
 pub turn_stays : (seen found : GateParts) (provider : ℕ) → LeadsTo seen found → InTurn seen provider → InTurn found provider
 turn_stays seen found provider leads turn by_files q least before =
     past_stays seen found q leads (turn (ap (λ (t : TermsParts). t.in_order) (sym leads.terms) ∙ by_files) q least before)

@@ -1,4 +1,4 @@
--- No terms are without what journals see of them.
+-- It is impossible that terms have no form as journals see them.
 use Rattle.std.proofs.Common.{ℕ, suc, List, [], ◌∷◌, refl, arith}
 use Rattle.std.specs.List.{All, AllZip}
 use Rattle.settlement.specs.declared.claim.Claim.{Claim}
@@ -8,7 +8,7 @@ use Rattle.intake_csv.specs.Rows.{claims_among}
 use Rattle.claim_gate.specs.Terms.{AreClaimsOf, AreTerms, ForTerms, IsClaimFile, TermsParts}
 use Rattle.intake_csv.specs.Laws.{FilesHaveRows}
 
--- the claims of a file
+-- a list of the claims of a file
 record ClaimsOf (names : List InputData) (text : List ℕ) : Type 0 where
   pub claims : List Claim
   pub are : AreClaimsOf names text claims
@@ -18,7 +18,7 @@ some_claims law names text file k =
     law names text file.layout file.records file.headered_file (λ rs.
     k (record { claims = claims_among rs.rows; are = record { rows = rs.rows; are_rows = rs.are; claims_are = refl } }))
 
--- the claims of all files
+-- a list of claims for each file
 record FilesOf (names : List InputData) (texts : List (List ℕ)) : Type 0 where
   pub files : List (List Claim)
   pub are : AllZip (AreClaimsOf names) texts files

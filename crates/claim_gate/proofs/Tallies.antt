@@ -1,4 +1,4 @@
--- How many elements of a list pass a test.
+-- The number of elements of a list that pass a test.
 use Rattle.std.proofs.Common.{◌≡◌, ℕ, suc, ◌≤◌, ◌+◌, ◌==◌, Bool, true, false, cond, List, [], ◌∷◌, length, refl, sym, ap, ◌∙◌, inl, inr, arith, eq-eqb, ne_eqb}
 use Rattle.std.specs.List.{list_all, count_by}
 use Rattle.std.proofs.lemmas.Bool.{both_ways, cases_Bool, cond-true, cond-false, and_from, and_parts}
@@ -10,7 +10,7 @@ one_and n = omega arith
 none_and : (n : ℕ) → 0 + n ≡ n
 none_and n = omega arith
 
--- one element more
+-- a first element that passes the test adds one to the count
 pub count_by-yes : {X : Type 0} (p : X → Bool) (x : X) (xs : List X) → p x ≡ true → count_by p (x ∷ xs) ≡ suc (count_by p xs)
 count_by-yes p x xs h =
     sum_by-cons (λ y. cond (p y) 1 0) x xs ∙ ap (λ n. n + count_by p xs) (cond-true {A = ℕ} (p x) 1 0 h) ∙ one_and (count_by p xs)
@@ -40,7 +40,7 @@ counted_all p (x ∷ xs) h =
           absurd never
     ]
 
--- each element passes exactly where as many pass as there are
+-- all elements pass exactly if the count is the length of the list
 pub all_by_count : {X : Type 0} (p : X → Bool) (xs : List X) → (count_by p xs == length xs) ≡ list_all p xs
 all_by_count p xs =
     elim (cases_Bool (list_all p xs)) [

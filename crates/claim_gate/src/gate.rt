@@ -9,9 +9,9 @@ use journal::BoxedOutcome;
 use std::sync::Wait;
 use turn_lock::Worn;
 
-/// A gate that several callers share. Each call is exactly one critical section of the caller's pass, in which it behaves as
-/// the call of the sequential gate does. `Worn` says that the lock has no ticket left; it changes nothing and takes
-/// precedence over all other results.
+/// A gate that several callers share. `split` only gives another caller a pass of its own. Each other call is exactly one
+/// critical section of the caller's pass, in which it behaves as the call of the sequential gate does. `Worn` says that the
+/// lock has no ticket left; it changes nothing and takes precedence over all other results.
 ///
 /// Each call returns the pass, which still knows all that it has seen. Calls may wait, and their contracts hold where they
 /// return.

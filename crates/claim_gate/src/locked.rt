@@ -17,7 +17,8 @@ use lanes::BoxedClaim;
 use std::sync::Wait;
 use turn_lock::{Pass, Section, TicketLock, Worn};
 
-/// A sequential gate that is protected by a lock. Its passes are those of the lock, and each call is one critical section.
+/// A sequential gate that is protected by a lock. Its passes are those of the lock, and each call of the sequential gate is
+/// one critical section.
 #[derive(Drop)]
 pub struct LockedGate<S: Section> {
     lock: S,

@@ -33,7 +33,7 @@ pub trait SerialPrefetching: SerialGate {
     ghost use Rattle.std.specs.Prelude.{◌≡◌};
     ghost use Rattle.claim_gate.specs.Shared.{IsLawful};
 
-    /// `GateState::prefetch`.
+    /// Prefetches what the offers of these claims will read, as `GateState::prefetch` does.
     fn prefetch(&mut self, claims: &[BoxedClaim])
         ensures grown { Self.leads self.old self.new }
         ensures same { Self.shown self.new ≡ Self.shown self.old }

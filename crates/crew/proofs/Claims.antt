@@ -23,7 +23,7 @@ use Rattle.journal.specs.Terms.{Terms, claims_of}
 use Rattle.journal.specs.Events.{Filed, accepts, claim_at, claim_filed}
 use Rattle.journal.specs.declared.event.Event.{Event}
 
--- where a claim stands among rows
+-- the claim is that of one of these rows
 record IsAmongThese (claim : Claim) (rows : List Row) : Type 0 where
   pub before : List Row
   pub number : ℕ
@@ -58,7 +58,7 @@ of_file law plan text cs i claim sound file h =
     let row = rows.are_rows.each s.before s.after (Good s.number s.place claim) (get_or rows.records (length s.before) []) s.split there in
     law plan sound.fields text rows.layout rows.records (get_or rows.records (length s.before) []) claim sound.names rows.headered_file row.2
 
--- so has each claim of all files
+-- each claim of all files has the plan's fields
 of_files : ClaimsHaveFields → (plan : PlanParts) (texts : List (List ℕ)) (files : List (List Claim)) (place i : ℕ) (claim : Claim) → IsPlan plan
     → AllZip (AreClaimsOf plan.names) texts files → slice_get (get_or files place []) i ≡ Some claim → IsClaimOf plan claim
 of_files law plan [] [] place i claim sound all h = absurd (none-some claim h)
@@ -75,7 +75,7 @@ filed law parts T f claim sound terms h = by_provider f.provider f.place h
     by_provider zero place e = absurd (none-some claim e)
     by_provider (suc p) place e = of_files law parts.plan parts.files T.files p place claim sound terms.files e
 
--- and each that was accepted
+-- each accepted claim has the plan's fields
 accepted_among : ClaimsHaveFields → (parts : TermsParts) (T : Terms) (fs : List Filed) (k : ℕ) (claim : Claim) → IsPlan parts.plan → IsTermsOf parts T
     → get_or (map (claim_filed T) fs) k None ≡ Some claim → IsClaimOf parts.plan claim
 accepted_among law parts T [] k claim sound terms h = absurd (none-some claim h)
@@ -86,7 +86,7 @@ pub accepted-of : ClaimsHaveFields → (parts : TermsParts) (T : Terms) (J : Lis
     → claim_at T J position ≡ Some claim → IsClaimOf parts.plan claim
 accepted-of law parts T J position claim sound terms h = accepted_among law parts T (accepts J) position claim sound terms h
 
--- kinds by numbers
+-- the number of a kind
 number_of : Kind → ℕ
 number_of kinds.Number = 0
 number_of kinds.Text = 1
@@ -107,20 +107,20 @@ numbered (kinds.Text ∷ ks) = ap (λ xs. kinds.Text ∷ xs) (numbered ks)
 numbered (kinds.Flag ∷ ks) = ap (λ xs. kinds.Flag ∷ xs) (numbered ks)
 numbered (kinds.Day ∷ ks) = ap (λ xs. kinds.Day ∷ xs) (numbered ks)
 
--- kinds that can't differ are the same
+-- lists of kinds that can't differ are equal
 kinds-decided : (ks ls : List Kind) → ¬ ¬ (ks ≡ ls) → ks ≡ ls
 kinds-decided ks ls h = elim (cases_Bool (bytes_eq (map number_of ks) (map number_of ls))) [
   | inl same ↦ sym (numbered ks) ∙ ap (map kind_numbered) ((bytes_eq-Decides (map number_of ks) (map number_of ls)).0 same) ∙ numbered ls
   | inr other ↦ absurd (h (λ e. false≢true (sym other ∙ (bytes_eq-Decides (map number_of ks) (map number_of ls)).1 (ap (map number_of) e))))
 ]
 
--- a plan's names have the same fields in each way to part them
+-- the names determine the fields
 fields_one : (families : Bool) (fields others : List InputData) → names_of families fields ≡ names_of families others → fields ≡ others
 fields_one families fields others e =
     append_cancel_right fields others (accumulator_names families)
     (append_cancel_left (claim_names families) (fields ++ accumulator_names families) (others ++ accumulator_names families) e)
 
--- answers that can't differ are the same
+-- truth values that can't differ are equal
 answers-decided : (a b : Bool) → ¬ ¬ (a ≡ b) → a ≡ b
 answers-decided true true h = refl
 answers-decided false false h = refl

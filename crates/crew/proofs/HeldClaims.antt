@@ -1,4 +1,4 @@
--- What a worker holds: claims in work stay so wherever the gate that it has seen leads.
+-- The claims in work that a worker holds stay in work in each later state of the gate.
 use Rattle.std.proofs.Common.{◌≡◌, ℕ, true, List, [], ◌∷◌, ◌++◌, map, sym, ap, subst, ◌∙◌, append_assoc}
 use Rattle.std.specs.List.{All}
 use Rattle.std.proofs.lemmas.Bool.{or_left}
@@ -19,12 +19,12 @@ use Rattle.claim_gate.proofs.Sharing.{job_stays}
 use Rattle.crew.specs.Sharing.{IsInWork, IsSettledIn, settled_by}
 use Rattle.crew.specs.declared.worker.DecidedJob.{DecidedJob}
 
--- a position that is taken stays so
+-- a position that is taken stays taken
 taken_stays : (J K : List Event) (position : ℕ) → Continues J K → has_take J position ≡ true → has_take K position ≡ true
 taken_stays J K position on is =
     ap (λ w. has_take w position) on.whole ∙ list_any-append (is_take position) J on.rest ∙ or_left (has_take J position) (has_take on.rest position) is
 
--- a claim in work stays so
+-- a claim in work stays in work
 pub in_work_stays : JobsAreStable → (a b : GateParts) (job : Job) → LeadsTo a b → IsInWork a job → IsInWork b job
 in_work_stays stay a b job leads w = record {
   in_work = taken_stays a.journal b.journal job.position leads.journal w.in_work;
@@ -32,39 +32,39 @@ in_work_stays stay a b job leads w = record {
   fields = subst (λ terms. IsClaimOf terms.plan job.claim) (sym leads.terms) w.fields;
 }
 
--- with its settlement too
+-- a claim in work with its outcome stays in work
 pub settled_stays : JobsAreStable → (a b : GateParts) (settled : DecidedJob) → LeadsTo a b → IsSettledIn a settled → IsSettledIn b settled
 settled_stays stay a b settled leads s = record {
   in_work = in_work_stays stay a b settled.job leads s.in_work;
   value = s.value ∙ ap (λ terms. outcome_of terms.plan settled.job.claim settled.job.acc) (sym leads.terms);
 }
 
--- so do all of them
+-- all claims in work stay in work
 pub all_in_work_stay : JobsAreStable → (a b : GateParts) (jobs : List Job) → LeadsTo a b → All (IsInWork a) jobs → All (IsInWork b) jobs
 all_in_work_stay stay a b jobs leads all = All-weaker (IsInWork a) (IsInWork b) (λ job w. in_work_stays stay a b job leads w) jobs all
 
 pub all_settled_stay : JobsAreStable → (a b : GateParts) (settled : List DecidedJob) → LeadsTo a b → All (IsSettledIn a) settled → All (IsSettledIn b) settled
 all_settled_stay stay a b settled leads all = All-weaker (IsSettledIn a) (IsSettledIn b) (λ one s. settled_stays stay a b one leads s) settled all
 
--- claims in work with their settlements
+-- claims in work with their outcomes under the plan are settled claims in work
 pub all_settled : (gate : GateParts) (plan : PlanParts) (jobs : List Job) → plan ≡ gate.terms.plan → All (IsInWork gate) jobs → All (IsSettledIn gate) (map (settled_by plan) jobs)
 all_settled gate plan jobs is all =
     All-map (IsSettledIn gate) (settled_by plan) jobs
     (All-weaker (IsInWork gate) (λ job. IsSettledIn gate (settled_by plan job))
     (λ job w. record { in_work = w; value = ap (λ p. outcome_of p job.claim job.acc) is }) jobs all)
 
--- they have the plan's fields
+-- claims in work have the plan's fields
 pub all_have_fields : (gate : GateParts) (plan : PlanParts) (jobs : List Job) → plan ≡ gate.terms.plan → All (IsInWork gate) jobs → All (λ job. IsClaimOf plan job.claim) jobs
 all_have_fields gate plan jobs is all =
     All-weaker (IsInWork gate) (λ job. IsClaimOf plan job.claim) (λ job w. subst (λ p. IsClaimOf p job.claim) (sym is) w.fields) jobs all
 
--- a list that is mapped one by one, with one item more
+-- when a list is mapped item by item, one more item moves from the rest to the results
 pub one_more : {X Y : Type 0} (f : X → Y) (done : List Y) (items rest : List X) (x : X) (y : Y) (all : List Y) → items ≡ x ∷ rest → y ≡ f x
     → done ++ map f items ≡ all → (done ++ y ∷ []) ++ map f rest ≡ all
 one_more f done items rest x y all steps is whole =
     append_assoc done (y ∷ []) (map f rest) ∙ ap (λ z. done ++ z ∷ map f rest) is ∙ sym (ap (λ xs. done ++ map f xs) steps) ∙ whole
 
--- a claim with its outcome by a plan
+-- a job with the outcome of its claim is the settled job under the plan
 pub settled_is : (plan same : PlanParts) (job : Job) (o : Outcome) (settled : DecidedJob) → settled ≡ record { job = job; outcome = o } → o ≡ outcome plan job.claim job.acc → plan ≡ same
     → settled ≡ settled_by same job
 unfolding outcome_of

@@ -1,4 +1,4 @@
--- What a journal tells with one event more, and with the close behind it.
+-- What a journal says after one more event, and with the close after that.
 use Rattle.std.proofs.Common.{◌≡◌, ℕ, suc, ◌==◌, Bool, true, false, cond, not, ◌&&◌, ◌||◌, List, [], ◌∷◌, ◌++◌, map, fold, take, length, get_or, None, refl, sym, ap, ◌∙◌, arith, append-nil, length-append}
 use Rattle.std.specs.List.{flat_map, list_any}
 use Rattle.std.proofs.lemmas.Bool.{cond-true, eq-eqb, or_right}
@@ -18,15 +18,15 @@ or_none : (b : Bool) → (b || false) ≡ b
 or_none true = refl
 or_none false = refl
 
--- a test of a journal with one event more
+-- a journal with one more event passes a test if the old one or the event does
 any_last : (test : Event → Bool) (J : List Event) (event : Event) → list_any test (J ++ event ∷ []) ≡ (list_any test J || test event)
 any_last test J event = list_any-append test J (event ∷ []) ∙ ap (λ b. list_any test J || b) (or_none (test event))
 
--- a test that the event fails
+-- an event that fails a test does not change the result for the journal
 pub any_stays : (test : Event → Bool) (J : List Event) (event : Event) → test event ≡ false → list_any test (J ++ event ∷ []) ≡ list_any test J
 any_stays test J event fails = any_last test J event ∙ ap (λ b. list_any test J || b) fails ∙ or_none (list_any test J)
 
--- a test that the event passes
+-- after an event that passes a test, the journal passes it
 pub any_now : (test : Event → Bool) (J : List Event) (event : Event) → test event ≡ true → list_any test (J ++ event ∷ []) ≡ true
 any_now test J event passes = any_last test J event ∙ or_right (list_any test J) (test event) passes
 
@@ -42,7 +42,7 @@ accepts_stay J event none = flat_stays accept_in J event none
 pub places_stay : (J : List Event) (event : Event) (provider : ℕ) → place_in provider event ≡ [] → places (J ++ event ∷ []) provider ≡ places J provider
 places_stay J event provider none = flat_stays (place_in provider) J event none
 
--- one place more of its own provider, and none of another one
+-- an acceptance adds one place to its provider
 pub places_more : (J : List Event) (provider place : ℕ) → length (places (J ++ Accept provider place ∷ []) provider) ≡ suc (length (places J provider))
 places_more J provider place =
     let one : place_in provider (Accept provider place) ≡ place ∷ [] = cond-true (provider == provider) (place ∷ []) [] (eq-eqb provider provider refl) in
@@ -52,12 +52,12 @@ places_more J provider place =
 pub ended_now : (J : List Event) (provider : ℕ) → has_end (J ++ End provider ∷ []) provider ≡ true
 ended_now J provider = any_now (is_end provider) J (End provider) (eq-eqb provider provider refl)
 
--- both tell the same of providers
+-- both journals agree on the places and the end of each provider
 pub record Report (old new : List Event) : Type 0 where
   pub places : (provider : ℕ) → places new provider ≡ places old provider
   pub ended : (provider : ℕ) → has_end new provider ≡ has_end old provider
 
--- the close tells nothing of these
+-- the close changes neither the places nor the end of a provider
 closed_reports : (J : List Event) → Report J (J ++ Close ∷ [])
 closed_reports J = record {
   places = λ provider. places_stay J Close provider refl;
@@ -71,7 +71,7 @@ closing_reports T J =
       | false ↦ record { places = λ p. refl; ended = λ p. refl }
     ]
 
--- the claim in work is a job behind its take too
+-- a job is also a job after its take
 pub job_stays : (T : Terms) (J : List Event) (position : ℕ) (claim : Claim) (acc : Acc) → IsJob T J position claim acc → IsJob T (J ++ Take position ∷ []) position claim acc
 job_stays T J position claim acc job =
     let same : claims T (J ++ Take position ∷ []) ≡ claims T J = ap (map (claim_filed T)) (accepts_stay J (Take position) refl) in

@@ -1,4 +1,4 @@
--- A provider's claims that are left, as its file is read.
+-- The remaining claims of a provider, as its file is read.
 use Rattle.std.proofs.Common.{◌≡◌, ℕ, zero, suc, ◌<◌, ◌≤◌, ◌+◌, ◌-◌, ◌^◌, List, [], ◌∷◌, ◌++◌, length, get_or, Some, refl, sym, ap, subst, ◌∙◌, arith, append_assoc, append-nil, length-append}
 use Rattle.std.specs.List.{AllZip, slice_get}
 use Rattle.settlement.specs.declared.claim.Claim.{Claim}
@@ -15,7 +15,7 @@ use Rattle.claim_gate.specs.Replies.{HasClaims}
 use Rattle.crew.specs.Reading.{AreLeft, AreNext, ReadsAhead}
 use Rattle.crew.specs.Sharing.{HasAccepted}
 
--- the claims of a file at a place
+-- the claims at a place are those of the text at the place
 at_place : (names : List InputData) (texts : List (List ℕ)) (files : List (List Claim)) (i : ℕ) → AllZip (AreClaimsOf names) texts files → i < length texts
     → AreClaimsOf names (get_or texts i []) (get_or files i [])
 at_place names [] files i all within = absurd (omega (arith, within))
@@ -23,14 +23,14 @@ at_place names (text ∷ texts) [] i all within = absurd all
 at_place names (text ∷ texts) (cs ∷ files) zero all within = all.0
 at_place names (text ∷ texts) (cs ∷ files) (suc i) all within = at_place names texts files i all.1 (omega (arith, within))
 
--- as many lists of claims as files
+-- there are as many texts as lists of claims
 pub as_many_files : (names : List InputData) (texts : List (List ℕ)) (files : List (List Claim)) → AllZip (AreClaimsOf names) texts files → length texts ≡ length files
 as_many_files names [] [] all = refl
 as_many_files names [] (cs ∷ files) all = absurd all
 as_many_files names (text ∷ texts) [] all = absurd all
 as_many_files names (text ∷ texts) (cs ∷ files) all = ap suc (as_many_files names texts files all.1)
 
--- at the start all claims of the provider are left
+-- at the start all claims of the provider remain
 pub left_first : StartHasTheRows → (parts : TermsParts) (T : Terms) (provider : ℕ) (left : RowsLeft) → IsTermsOf parts T → 1 ≤ provider → provider ≤ length parts.files
     → IsAtStart parts.plan.names (get_or parts.files (provider - 1) []) left → AreLeft T provider 0 left
 left_first law parts T zero left terms least most start = absurd (omega (arith, least))
@@ -47,12 +47,12 @@ left_first law parts T (suc i) left terms least most start =
       counted = refl;
     }
 
--- the claims among rows of which the first has the same claims as another row
+-- if the first of the rows has the claims of this row, the claims among the rows begin with them
 claims_begin : (row : Row) (left : RowsLeft) (rows : List Row) (b : BeginLike row left rows) → claims_among rows ≡ claim_in row ++ claims_among b.rest
 claims_begin row left rows b = ap claims_among b.rows_are ∙ ap (λ cs. cs ++ claims_among b.rest) b.claims
 
 module _ (law : GivenRowHasTheClaim) where
-  -- a record that is refused leaves the same claims
+  -- after a refused record the same claims remain
   pub left_refused : (T : Terms) (provider count : ℕ) (old new : RowsLeft) (number : ℕ) (fault : RowFault) → AreLeft T provider count old
       → GivesRow old new (Bad number fault) → AreLeft T provider count new
   left_refused T provider count old new number fault h g =
@@ -65,7 +65,7 @@ module _ (law : GivenRowHasTheClaim) where
         counted = h.counted;
       }
 
-  -- a record that is a claim is the provider's next one
+  -- the claim of a record is the provider's next one
   begun : (T : Terms) (provider count : ℕ) (old new : RowsLeft) (number place : ℕ) (claim : Claim) (h : AreLeft T provider count old)
       → (b : BeginLike (Good number place claim) new h.rows) → claims_of T provider ≡ h.front ++ (claim ∷ claims_among b.rest)
   begun T provider count old new number place claim h b = h.whole ∙ ap (λ cs. h.front ++ cs) (claims_begin (Good number place claim) new h.rows b)
@@ -92,7 +92,7 @@ module _ (law : GivenRowHasTheClaim) where
         counted = length-append h.front (claim ∷ []) ∙ ap (λ n. n + 1) h.counted;
       }
 
--- where no record is left, all claims of the provider are accepted
+-- if no record is left, all claims of the provider are read
 pub left_none : NoRecordsNoRows → (parts : TermsParts) (T : Terms) (provider count : ℕ) (left : RowsLeft) → IsTermsOf parts T → 1 ≤ provider
     → provider ≤ length parts.files → left.records ≡ [] → AreLeft T provider count left → HasClaims T provider count
 left_none law parts T provider count left terms least most none h =
@@ -103,7 +103,7 @@ left_none law parts T provider count left terms least most none h =
       count_is = sym h.counted ∙ ap length (sym all);
     }
 
--- what holds between two records of a provider's file: so many claims were read, and all in front of the place that is expected next
+-- between two records of a provider's file `count` claims are read, and all claims before the place that is expected next
 -- are accepted
 pub record IsAtOffer (terms : TermsParts) (seen : GateParts) (provider count expected : ℕ) (left : RowsLeft) : Type 0 where
   pub of_terms : seen.terms ≡ terms
@@ -124,7 +124,7 @@ first_offer law parts seen provider left of_terms least most start = record {
   fewer = omega (arith, start.place, start.number);
 }
 
--- behind claims that were read ahead, once all in front of a later place are accepted
+-- this also holds after claims that were read ahead, once all claims before a later place are accepted
 pub after_offers : (terms : TermsParts) (seen later : GateParts) (provider count expected next : ℕ) (old new : RowsLeft) (claims : List Claim)
     → IsAtOffer terms seen provider count expected old → ReadsAhead old new claims → later.terms ≡ terms → count + length claims ≤ next
     → HasAccepted later provider next → IsAtOffer terms later provider (count + length claims) next new
@@ -137,7 +137,7 @@ after_offers terms seen later provider count expected next old new claims h read
   fewer = read.fewer h.fewer;
 }
 
--- nothing is read yet
+-- at first nothing is read ahead
 pub none_read : (left : RowsLeft) → ReadsAhead left left []
 none_read left = record {
   next = λ T provider count h. (tt, subst (λ n. AreLeft T provider n left) (omega arith) h);
@@ -145,7 +145,7 @@ none_read left = record {
   fewer = λ h. h;
 }
 
--- one claim more behind others
+-- consecutive claims remain consecutive with the next one appended
 next_more : (T : Terms) (provider place : ℕ) (claims : List Claim) (claim : Claim) → AreNext T provider place claims
     → slice_get (claims_of T provider) (place + length claims) ≡ Some claim → AreNext T provider place (claims ++ claim ∷ [])
 next_more T provider place [] claim next at = (subst (λ n. slice_get (claims_of T provider) n ≡ Some claim) (omega arith) at, tt)
@@ -155,7 +155,7 @@ next_more T provider place (first ∷ rest) claim next at = (
 )
 
 module _ (law : GivenRowHasTheClaim) where
-  -- a record more that is refused
+  -- one more record is read, which is refused
   pub refused_read : (old mid new : RowsLeft) (claims : List Claim) (number : ℕ) (fault : RowFault) → ReadsAhead old mid claims
       → GivesRow mid new (Bad number fault) → ReadsAhead old new claims
   refused_read old mid new claims number fault h gives = record {
@@ -165,7 +165,7 @@ module _ (law : GivenRowHasTheClaim) where
     fewer = λ within. let before = h.fewer within in omega (arith, gives.place, gives.number, before);
   }
 
-  -- a record more that is a claim
+  -- one more record is read, which is a claim
   pub claim_read : (old mid new : RowsLeft) (claims : List Claim) (number place : ℕ) (claim : Claim) → ReadsAhead old mid claims
       → GivesRow mid new (Good number place claim) → ReadsAhead old new (claims ++ claim ∷ [])
   claim_read old mid new claims number place claim h gives =
@@ -179,7 +179,7 @@ module _ (law : GivenRowHasTheClaim) where
         fewer = λ within. let before = h.fewer within in omega (arith, gives.place, gives.number, before);
       }
 
--- behind a claim more the place is one that a record's number tells
+-- after one more claim the place is less than 2^64, since it is at most the record's number
 pub room_more : (old mid new : RowsLeft) (claims : List Claim) (number place : ℕ) (claim : Claim) → ReadsAhead old mid claims → GivesRow mid new (Good number place claim)
     → number < 2 ^ 64 → old.place < old.number → old.place < 2 ^ 64 → old.place + length (claims ++ claim ∷ []) < 2 ^ 64
 room_more old mid new claims number place claim h gives fits within small =
@@ -188,7 +188,7 @@ room_more old mid new claims number place claim h gives fits within small =
     let reported = gives.is_row.0 in
     omega (arith, size, before, reported, fits, h.place)
 
--- the first of the claims that come next stands at its place, and the others come behind it
+-- the first of consecutive claims is at the given place, and the others come after it
 pub next_first : (T : Terms) (provider place : ℕ) (claims rest : List Claim) (claim : Claim) → claims ≡ claim ∷ rest → AreNext T provider place claims
     → (slice_get (claims_of T provider) place ≡ Some claim) × AreNext T provider (place + 1) rest
 next_first T provider place claims rest claim is next = subst (AreNext T provider place) is next

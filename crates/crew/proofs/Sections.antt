@@ -1,4 +1,4 @@
--- What one section of a shared gate tells its caller.
+-- What a caller has seen after one section of the shared gate.
 use Rattle.std.proofs.Common.{inl, inr, ◌≡◌, ◌<◌, ◌≤◌, ◌+◌, ℕ, suc, Bool, true, false, List, [], ◌∷◌, ◌++◌, length, Result, Err, refl, sym, ap, subst, ◌∙◌, arith, length-append}
 use Rattle.std.proofs.lemmas.Bool.{cases_Bool, cases_lt, eq-eqb, false≢true, or_left, or_right}
 use Rattle.std.proofs.lemmas.Grind.{flat_map-append}
@@ -32,18 +32,18 @@ use Rattle.crew.specs.Sharing.{HasAccepted, IsInWork, is_past, is_shut}
 use Rattle.crew.proofs.Claims.{accepted-of, fields-decided}
 use Rattle.crew.proofs.Journals.{Report, any_now, closing_reports, ended_now, job_stays, now_taken, places_more}
 
--- what was seen before leads to what is seen now
+-- the state that was seen before leads to the state that is seen now
 pub led : (before after : Known) → HadSection before after → LeadsTo before.seen after.seen
 led before after h = leads_further before.seen after.found after.seen h.fresh h.grown
 
--- where a journal goes on, a provider's accepted claims are no fewer
+-- in a continued journal a provider has no fewer accepted claims
 pub no_fewer : (J K : List Event) (provider : ℕ) → Continues J K → length (places J provider) ≤ length (places K provider)
 no_fewer J K provider on =
     let parts = ap (λ w. length (places w provider)) on.whole ∙ ap length (flat_map-append (place_in provider) J on.rest)
     ∙ length-append (places J provider) (places on.rest provider) in
     omega (arith, parts)
 
--- refusals, as the gate of one thread has them
+-- a refusal is that of the sequential gate for this fault
 end_reported : (reply : Result Ended EndFault) (fault : EndFault) (expected : ℕ) → reply ≡ Err fault → fault ≡ end.OutOfTurn expected
     → end_reply reply ≡ EndReply.OutOfTurn expected
 end_reported reply fault expected err is = ap end_reply err ∙ ap (λ f. end_reply (Err f)) is
@@ -61,14 +61,14 @@ stopped_reported : (reply : Result Recorded (FinishFault × Job × Outcome)) (fa
 stopped_reported reply fault job o err is = ap finish_reply err ∙ ap (λ f. finish_reply (Err (f, job, o))) is
 
 module _ (parts : TermsParts) (there : ¬ ForTerms parts (λ T. ⊥)) where
-  -- a test that holds for all terms
+  -- a test holds if it holds for each reading of the terms
   pub holds : (b : Bool) → ForTerms parts (λ T. b ≡ true) → b ≡ true
   holds b h = elim (cases_Bool b) [
     | inl is_true ↦ is_true
     | inr other ↦ absurd (there (λ T is. false≢true (sym other ∙ h T is)))
   ]
 
-  -- numbers in an order that holds for all terms
+  -- a number is less than another one if it is less for each reading of the terms
   pub lies_below : (m n : ℕ) → ForTerms parts (λ T. m < n) → m < n
   lies_below m n h = elim (cases_lt m n) [
     | inl is_below ↦ is_below
@@ -76,27 +76,27 @@ module _ (parts : TermsParts) (there : ¬ ForTerms parts (λ T. ⊥)) where
   ]
 
   module _ (before after : Known) (of_terms : before.seen.terms ≡ parts) (h : HadSection before after) where
-    -- the section by the terms that the caller knows
+    -- the section had the effect of the call under the terms that the caller knows
     went : (Goes : GateAt → GateAt → Type 0) → Went Goes after → ForTerms parts (λ T. Goes (at T after.found) (at T after.seen))
     went Goes w T is = w T (subst (λ terms. IsTermsOf terms T) (sym (h.fresh.terms ∙ of_terms)) is)
 
     seen_terms : after.seen.terms ≡ parts
     seen_terms = h.grown.terms ∙ h.fresh.terms ∙ of_terms
 
-    -- the gate is stopped, and the section has changed nothing
+    -- the caller has seen the gate stopped if the section found it stopped and changed nothing
     pub stopped_seen : Went (λ old new. (old.stopped ≡ true) × (new ≡ old)) after → after.seen.stopped ≡ true
     stopped_seen w = holds after.seen.stopped (λ T is.
         let r = went (λ old new. (old.stopped ≡ true) × (new ≡ old)) w T is in
         ap (λ (g : GateAt). g.stopped) r.1 ∙ r.0)
 
-    -- the section stops it
+    -- the caller has seen the gate stopped if the section stopped it
     pub stops_seen : Went Stops after → after.seen.stopped ≡ true
     stops_seen w = holds after.seen.stopped (λ T is. ap (λ (g : GateAt). g.stopped) (went Stops w T is))
 
     pub stopped_shut : Went (λ old new. (old.stopped ≡ true) × (new ≡ old)) after → is_shut after.seen ≡ true
     stopped_shut w = or_left after.seen.stopped (closed after.seen.journal) (stopped_seen w)
 
-    -- it is closed
+    -- no more claims are accepted if the section found the gate closed
     pub closed_shut : Went (λ old new. (old.stopped ≡ false) × (closed old.journal ≡ true) × (new ≡ old)) after → is_shut after.seen ≡ true
     closed_shut w = holds (is_shut after.seen) (λ T is.
         let r = went (λ old new. (old.stopped ≡ false) × (closed old.journal ≡ true) × (new ≡ old)) w T is in
@@ -108,7 +108,7 @@ module _ (parts : TermsParts) (there : ¬ ForTerms parts (λ T. ⊥)) where
     ended_past : (provider : ℕ) → has_end after.seen.journal provider ≡ true → is_past after.seen provider ≡ true
     ended_past provider over = or_right (is_shut after.seen) (has_end after.seen.journal provider) over
 
-    -- the provider ends, or has ended
+    -- no more claims of a provider are accepted if it ends or has ended
     pub ends_past : (provider count : ℕ) → Went (λ old new. Ends old provider count EndReply.Ended new) after → is_past after.seen provider ≡ true
     ends_past provider count w = holds (is_past after.seen provider) (λ T is.
         let r = went (λ old new. Ends old provider count EndReply.Ended new) w T is in
@@ -122,7 +122,7 @@ module _ (parts : TermsParts) (there : ¬ ForTerms parts (λ T. ⊥)) where
         let r = went (λ old new. Ends old provider count EndReply.AlreadyEnded new) w T is in
         ended_past provider (ap (λ (g : GateAt). has_end g.journal provider) r.3 ∙ r.2))
 
-    -- a provider of which so many claims are accepted doesn't lack one of them
+    -- an end is not out of turn if all `count` claims of the provider are accepted
     pub none_lacks : (provider count expected : ℕ) (reply : Result Ended EndFault) (fault : EndFault) → reply ≡ Err fault → fault ≡ end.OutOfTurn expected
         → HasAccepted before.seen provider count → ¬ Went (λ old new. Ends old provider count (end_reply reply) new) after
     none_lacks provider count expected reply fault err is_fault has w = there (λ T is.
@@ -131,7 +131,7 @@ module _ (parts : TermsParts) (there : ¬ ForTerms parts (λ T. ⊥)) where
         (went (λ old new. Ends old provider count (end_reply reply) new) w T is) in
         omega (arith, r.1, r.2, has, no_fewer before.seen.journal after.found.journal provider h.fresh.journal))
 
-    -- a claim is accepted
+    -- an accepted claim is one more accepted claim of its provider
     pub accepts_on : (provider place position : ℕ) → Went (λ old new. Offers old provider place (OfferReply.Accepted position) new) after
         → (place < place + 1) × HasAccepted after.seen provider (place + 1)
     accepts_on provider place position w =
@@ -143,7 +143,7 @@ module _ (parts : TermsParts) (there : ¬ ForTerms parts (λ T. ⊥)) where
         omega (arith, r.1, ap length (t.places provider), places_more after.found.journal provider place)) in
         (omega arith, omega (arith, more))
 
-    -- another one is the provider's next, and that is a later one
+    -- if another claim is the provider's next one, it is a later one
     pub goes_on : (provider place expected : ℕ) (reply : Result Accepted (OfferFault × Offer)) (fault : OfferFault) (back : Offer) → reply ≡ Err (fault, back)
         → fault ≡ offer.OutOfTurn expected → HasAccepted before.seen provider place → Went (λ old new. Offers old provider place (offer_reply reply) new) after
         → (place < expected) × HasAccepted after.seen provider expected
@@ -159,7 +159,7 @@ module _ (parts : TermsParts) (there : ¬ ForTerms parts (λ T. ⊥)) where
         omega (arith, r.1, ap (λ (g : GateAt). length (places g.journal provider)) r.3)) in
         (later, omega (arith, within))
 
-    -- no more is accepted, since the journal is closed, or the gate stopped
+    -- no more claims are accepted if the offer is refused because the gate is closed or stopped
     pub closed_to : (provider place : ℕ) (reply : Result Accepted (OfferFault × Offer)) (fault : OfferFault) (back : Offer) → reply ≡ Err (fault, back)
         → fault ≡ offer.Closed → Went (λ old new. Offers old provider place (offer_reply reply) new) after → is_shut after.seen ≡ true
     closed_to provider place reply fault back err is_fault w = closed_shut (λ T is.
@@ -170,13 +170,13 @@ module _ (parts : TermsParts) (there : ¬ ForTerms parts (λ T. ⊥)) where
     stopped_to provider place reply fault back err is_fault w = stopped_shut (λ T is.
         subst (λ r. Offers (at T after.found) provider place r (at T after.seen)) (offer_reported reply fault offer.Stopped back err is_fault) (w T is))
 
-    -- the work is over
+    -- the caller has seen a finished journal if `take` returns `Over`
     pub over_seen : Went (λ old new. Takes old TakeReply.Over new) after → ForTerms after.seen.terms (λ T. Finished T after.seen.journal)
     over_seen w T is =
         let r = went (λ old new. Takes old TakeReply.Over new) w T (subst (λ terms. IsTermsOf terms T) seen_terms is) in
         subst (λ J. Finished T J) (sym (ap (λ (g : GateAt). g.journal) r.2)) r.1
 
-    -- a claim is taken
+    -- a claim that is taken is in work
     pub work_seen : ClaimsHaveFields → IsPlan parts.plan → (job : Job)
         → Went (λ old new. Takes old (TakeReply.Work job.position job.claim job.acc) new) after → IsInWork after.seen job
     work_seen law sound job w =
@@ -192,7 +192,7 @@ module _ (parts : TermsParts) (there : ¬ ForTerms parts (λ T. ⊥)) where
               other (accepted-of law parts T after.found.journal job.position job.claim sound is (all T is).2.job.located))));
         }
 
-    -- its decision is recorded, or was before
+    -- the caller has seen the decision if it is recorded or was recorded before
     pub recorded_seen : (position : ℕ) (o : Outcome) → Went (λ old new. Finishes old position o FinishReply.Recorded new) after
         → has_decision after.seen.journal position ≡ true
     recorded_seen position o w = holds (has_decision after.seen.journal position) (λ T is.
@@ -209,7 +209,7 @@ module _ (parts : TermsParts) (there : ¬ ForTerms parts (λ T. ⊥)) where
         (went (λ old new. Finishes old position o (finish_reply reply) new) w T is) in
         ap (λ (g : GateAt). has_decision g.journal position) r.2 ∙ r.1)
 
-    -- it is refused, since the gate is stopped
+    -- the caller has seen the gate stopped if the decision is refused for this reason
     pub refused_seen : (position : ℕ) (o : Outcome) (reply : Result Recorded (FinishFault × Job × Outcome)) (fault : FinishFault) (job : Job) (back : Outcome)
         → reply ≡ Err (fault, job, back) → fault ≡ finish.Stopped → Went (λ old new. Finishes old position o (finish_reply reply) new) after
         → after.seen.stopped ≡ true

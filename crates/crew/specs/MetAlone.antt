@@ -1,8 +1,8 @@
--- Which faults a thread of a run meets by itself.
+-- The faults that are a thread's own.
 use Rattle.std.specs.Prelude.{◌≢◌}
 use Rattle.faults.specs.declared.run_fault.RunFault.{RunFault}
 use Rattle.faults.specs.declared.run_fault.RunFault.TheVariants.{Workers, Stopped}
 
--- a thread meets the fault by itself: how many workers there are to be no thread decides, and that the run was stopped each sees
+-- the fault is a thread's own: the caller gives the number of workers, and each caller sees a stop of the run itself
 abbrev pub IsMetAlone : RunFault → Type 0
 IsMetAlone fault = (fault ≢ Workers) × (fault ≢ Stopped)

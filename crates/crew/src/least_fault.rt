@@ -28,8 +28,8 @@ impl LeastFault {
             .fetch_min(u64::from(fault.number()), Ordering::SeqCst);
     }
 
-    /// Returns the caller's own fault or the noted one, whichever has the lesser number. Only a thread's own faults count: a
-    /// stop of the run is seen by each caller itself.
+    /// Returns the caller's own fault or the noted one, whichever has the lesser number. A noted fault counts only where it is
+    /// a thread's own, because each caller sees a stop of the run itself.
     pub(crate) fn least_with(&self, own: RunFault) -> RunFault
         ensures least { number_of result ≤ number_of own }
         ensures workers { result ≡ Workers → own ≡ Workers }

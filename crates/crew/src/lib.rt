@@ -2,8 +2,8 @@
 //!
 //! `run` starts an intake thread for each provider's file and the given number of workers. They share a gate from
 //! `claim_gate`, which a lock from `turn_lock` protects. The terms come from `claim_gate`, the readers of the files from
-//! `intake_csv`, the decisions from `settlement`, and from `gate_batching` a hint which thread calls the gate next. `run_with`
-//! uses a gate of the caller's.
+//! `intake_csv`, the decisions from `settlement`, and the hints about which thread calls the gate next from `gate_batching`.
+//! `run_with` uses a gate of the caller's.
 //!
 //! Begin with `threads.rt`, which has the contracts of `run` and `run_with`; `intake.rt` and `worker.rt` have the work of the
 //! threads, and `hints.rt` has what makes it quicker.

@@ -7,7 +7,7 @@ use Rattle.journal.specs.Gate.{LeadsTo}
 use Rattle.crew.proofs.Passes.{further}
 use Rattle.crew.proofs.intake.run_intakes.Goals as goal
 
--- one provider more is past
+-- no more claims are accepted of one more provider
 one_more : (seen now : GateParts) (place : ℕ) → LeadsTo seen now → ((q : ℕ) → 1 ≤ q → q ≤ place → is_past seen q ≡ true) → is_past now (place + 1) ≡ true
     → (q : ℕ) → 1 ≤ q → q ≤ place + 1 → is_past now q ≡ true
 one_more seen now place leads before here q least most = elim (cases_lt place q) [

@@ -6,7 +6,7 @@ use Rattle.faults.specs.declared.run_fault.RunFault.TheVariants.{OutOfMemory}
 use Rattle.crew.proofs.Passes.{not_for_workers}
 use Rattle.crew.proofs.threads.run.Goals as goal
 
--- a journal that is finished is not unfinished, since there are terms to say so of
+-- a journal is not both finished and unfinished, since a reading of the terms is possible
 not_both : (parts : TermsParts) (J : List Event) → ¬ ForTerms parts (λ T. ⊥) → ForTerms parts (λ T. Finished T J) → ForTerms parts (λ T. ¬ Finished T J) → ⊥
 not_both parts J seen finished unfinished = seen (λ T is. unfinished T is (finished T is))
 

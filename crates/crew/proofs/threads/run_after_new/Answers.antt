@@ -7,7 +7,7 @@ use Rattle.claim_gate.specs.Parts.{GateParts}
 use Rattle.claim_gate.specs.Shared.{IsLawful}
 use Rattle.crew.proofs.threads.run_after_new.Goals as goal
 
--- a gate with a finished journal leads to one with the same journal
+-- a finished journal stays finished in each later state of the gate
 stays_finished : FinishedIsFinal → (parts : TermsParts) (before after : GateParts) → after.terms ≡ parts → LeadsTo before after → IsLawful after
     → ForTerms parts (λ T. Finished T before.journal) → ForTerms parts (λ T. Finished T after.journal)
 stays_finished final parts before after of_terms leads lawful finished T is =

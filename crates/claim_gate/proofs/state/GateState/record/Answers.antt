@@ -27,7 +27,7 @@ returns-clause-lawful c = (done c).lawful
 pub invariant_of-self : goal.invariant_of-self
 invariant_of-self c = kept_alike c.self.inside c.reserve.new.self.items c.self.inside.lanes (search rules) refl c.self.invariant
 
--- what holds of a call that is refused
+-- the clause on refused calls holds of a call that is refused
 if-refused : {X Y : Type 0} (r : Result X Y) (P : Type 0) → is_err r ≡ true → IfErr r (λ _. P) → P
 if-refused (Ok x) P refused holds = absurd (false≢true refused)
 if-refused (Err e) P refused holds = holds
