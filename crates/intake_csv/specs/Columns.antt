@@ -110,11 +110,11 @@ pub record IsFile (text : List ℕ) (header : Fields) (records : List Fields) : 
   pub read : AreRecordsOf text (header ∷ records)
 
 -- the text is a file with the required columns
-pub record IsHeaderedFile (required_column : List RequiredColumn) (text : List ℕ) (layout : Layout) (records : List Fields) : Type 0 where
+pub record IsHeaderedFile (required : List RequiredColumn) (text : List ℕ) (layout : Layout) (records : List Fields) : Type 0 where
   pub header : Fields
   pub file : IsFile text header records
   pub width : layout.width ≡ length header
-  pub columns : AreColumnsOf header required_column layout.columns
+  pub columns : AreColumnsOf header required layout.columns
 
 -- the name does not occur in the header
 abbrev pub IsMissing : Fields → RequiredColumn → Type 0
@@ -129,25 +129,25 @@ abbrev pub IsRepeated : Fields → RequiredColumn → Type 0
 IsRepeated header n = 1 < times n.name header
 
 -- the text is a file whose header lacks a required column
-pub record LacksColumn (required_column : List RequiredColumn) (text : List ℕ) : Type 0 where
+pub record LacksColumn (required : List RequiredColumn) (text : List ℕ) : Type 0 where
   pub header : Fields
   pub records : List Fields
   pub file : IsFile text header records
-  pub missing : Any (IsMissing header) required_column
+  pub missing : Any (IsMissing header) required
 
 -- the text is a file whose header has all required columns, and one of them more than once
-pub record RepeatsColumn (required_column : List RequiredColumn) (text : List ℕ) : Type 0 where
+pub record RepeatsColumn (required : List RequiredColumn) (text : List ℕ) : Type 0 where
   pub header : Fields
   pub records : List Fields
   pub file : IsFile text header records
-  pub all : All (IsThere header) required_column
-  pub repeated : Any (IsRepeated header) required_column
+  pub all : All (IsThere header) required
+  pub repeated : Any (IsRepeated header) required
 
 -- the text is not a file with the required columns, for this reason; nothing is stated if memory
 -- runs out
 abbrev pub HasFileFault : List RequiredColumn → List ℕ → FileFault → Type 0
-HasFileFault required_column text TooLarge = file_limit_bytes < length text
-HasFileFault required_column text NoHeader = (length text ≤ file_limit_bytes) × AreRecordsOf text []
-HasFileFault required_column text MissingColumn = LacksColumn required_column text
-HasFileFault required_column text DuplicateColumn = RepeatsColumn required_column text
-HasFileFault required_column text OutOfMemory = Unit {0}
+HasFileFault required text TooLarge = file_limit_bytes < length text
+HasFileFault required text NoHeader = (length text ≤ file_limit_bytes) × AreRecordsOf text []
+HasFileFault required text MissingColumn = LacksColumn required text
+HasFileFault required text DuplicateColumn = RepeatsColumn required text
+HasFileFault required text OutOfMemory = Unit {0}

@@ -20,7 +20,7 @@ use std::alloc::{AllocError, Global};
 
 /// Returns the required columns of a claim file under a plan.
 pub fn claim_columns(alloc: Global, plan: &Plan) -> Result<Sequence<RequiredColumn>, AllocError>
-    ensures { IfOk result (λ required_column. required_column ≡ claim_columns plan.now.names) }
+    ensures { IfOk result (λ columns. columns ≡ claim_columns plan.now.names) }
 {
     let mut needed = own_columns(alloc, plan.keeps_families())?;
     push_fields(alloc, &mut needed, fields_of(plan))?;
@@ -28,7 +28,7 @@ pub fn claim_columns(alloc: Global, plan: &Plan) -> Result<Sequence<RequiredColu
 }
 
 fn own_columns(alloc: Global, families: bool) -> Result<Sequence<RequiredColumn>, AllocError>
-    ensures { IfOk result (λ required_column. required_column ≡ own_columns families) }
+    ensures { IfOk result (λ columns. columns ≡ own_columns families) }
 {
     let mut needed = Sequence::new(alloc);
     push_column(alloc, &mut needed, "claim", Content::Identifier)?;
@@ -45,7 +45,7 @@ pub fn push_family(
     needed: &mut Sequence<RequiredColumn>,
     families: bool,
 ) -> Result<(), AllocError>
-    ensures { OnOk result (required_column.new ≡ required_column.old ++ family_columns families) }
+    ensures { OnOk result (needed.new ≡ needed.old ++ family_columns families) }
 {
     if families {
         push_column(alloc, needed, "family", Content::Identifier)

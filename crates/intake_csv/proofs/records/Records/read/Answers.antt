@@ -11,7 +11,7 @@ overflow_add-self c =
     let at : HasLeft i.reader (drop i.given (records_of i.text.now)) = rw c.in-Reading.is at c.self.invariant.0 in
     let read = rw c.if-not-found.false at (c.in-Ok.ensures.reads at.untrimmed at.ready) in
     let gives = reader-gives i.reader c.read_byte_record.new.self (records_of i.text.now) i.given (fields_of c.read_byte_record.new.row) at read (c.in-Ok.ensures.ready at.untrimmed) in
-    omega (arith, gives.within, records-few i.text.now, c.self.reported.1)
+    omega (arith, gives.within, records-few i.text.now, c.self.told.1)
 
 pub invariant_of-self-then-not-found : goal.invariant_of-self-then-not-found
 invariant_of-self-then-not-found c =
