@@ -195,7 +195,8 @@ fn count_refusal(refusals: &mut Vec<RefusalCount>, fault: RowFault) -> Result<()
             return Ok(());
         }
     }
-    refusals.push(RefusalCount { fault, count: 1 })
+    refusals.push(RefusalCount { fault, count: 1 })?;
+    Ok(())
 }
 
 /// The counts of the records of a run, and the total that the plan pays.
