@@ -6,7 +6,7 @@ use Rattle.cutplan.specs.Masks.{rules_in, AreMasks}
 use Rattle.cutplan.specs.CheckSteps.{uncovered}
 use Rattle.cutplan.proofs.Covering.{uncovered_more, end_is}
 use Rattle.cutplan.proofs.Meeting.{alive_are, alive_rules, mask_here, mask_there, masks_here, masks_later, masks_there}
-use Rattle.cutplan.proofs.gap.+uncovered.Goals as goal
+use Rattle.cutplan.proofs.gap.+uncovered_cells.Goals as goal
 
 pub bounds-masks-place : goal.bounds-masks-place
 bounds-masks-place m c =

@@ -3,7 +3,7 @@ use Rattle.std.specs.List.{flat_map}
 use Rattle.cutplan.specs.Check.{cells}
 use Rattle.cutplan.specs.Masks.{rules_in}
 use Rattle.cutplan.specs.CheckSteps.{uncovered}
-use Rattle.cutplan.proofs.gap.+uncovered.Given as goal
+use Rattle.cutplan.proofs.gap.+uncovered_cells.Given as goal
 
 abbrev pub decreases-uncovered_cells : goal.decreases-uncovered_cells
 decreases-uncovered_cells l = length l.columns.now
