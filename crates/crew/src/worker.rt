@@ -272,7 +272,7 @@ fn record<R: Wait, G: Gate>(
     requires terms { (G.known pass).seen.terms ≡ terms.now }
     requires settled { IsSettledIn (G.known pass).seen settled }
     ensures goes_on { IfOk result (GoesOn (G.has_pass gate.now) G.known pass) }
-    ensures has_decision { IfOk result
+    ensures decided { IfOk result
         (λ p. has_decision (G.known p).seen.journal settled.job.position ≡ true) }
     ensures leaves { IfErr result (LeavesWith (G.has_pass gate.now) G.known pass) }
 {
