@@ -111,7 +111,8 @@ fn put_report_of_text<W: Write>(
 
 #[tactic(auto, using(crate::proofs::Refusals::refuses_spelling, crate::proofs::Spelled::reported_is_spelled))]
 fn report_of_text(alloc: Global, plan: &[u8], findings: Findings) -> Result<CheckReport, ValueStop>
-    ensures text { IfOk result (λ reported. IsReportedText findings plan.now (reported_text reported)) }
+    ensures text { IfOk result (λ reported.
+        IsReportedText findings plan.now (reported_text reported)) }
     ensures counted { IfOk result (λ reported. length (reported_text reported) < greatest_count) }
     ensures refused { IfErr result (RefusesPlan plan.now) }
 {

@@ -8,14 +8,14 @@ use std::alloc::Global;
 
 /// A request to count the records of a run's remittance or not, and the counts of the last run.
 pub struct Counting {
-    is_wanted: bool,
+    is_requested: bool,
     counts: Option<RunCounts>,
 }
 
 impl Drop for Counting {
     fn drop(self) {
         let Counting {
-            is_wanted: _,
+            is_requested: _,
             counts: _,
         } = self;
     }
@@ -23,17 +23,17 @@ impl Drop for Counting {
 
 impl Counting {
     /// Requests no counts, which saves one more pass over the files.
-    pub fn unwanted() -> Counting {
+    pub fn nothing() -> Counting {
         Counting {
-            is_wanted: false,
+            is_requested: false,
             counts: None,
         }
     }
 
     /// Requests the counts of the next run.
-    pub fn wanted() -> Counting {
+    pub fn of_records() -> Counting {
         Counting {
-            is_wanted: true,
+            is_requested: true,
             counts: None,
         }
     }
@@ -48,7 +48,7 @@ impl Counting {
         requires same_terms { batch.now.terms ≡ terms.now }
         ensures { IfSome self.new.counts (AreRunCounts terms.now batch.now.journal) }
     {
-        self.counts = if self.is_wanted {
+        self.counts = if self.is_requested {
             count_run(alloc, terms, batch).ok()
         } else {
             None

@@ -62,7 +62,7 @@ pub fn do_run<R: Threads + Wait + Sync + AllocGlobal, W: Write>(
     ensures failed { IfErr result (λ stop.
         has_failed out.new ≡ failed_after (has_failed out.old) stop) }
 {
-    do_counted_run(rt, input, out, &mut Counting::unwanted())
+    do_counted_run(rt, input, out, &mut Counting::nothing())
 }
 
 /// Settles the claims as `do_run` does, and counts the records of the remittance if `counting`

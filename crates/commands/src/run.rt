@@ -145,7 +145,8 @@ where
     run_anywhere(rt, &texts.about(explains, matches), input, has_summary)
 }
 
-/// Runs into the file of `--output` or to standard output, and reports the counts of the records where they are wanted.
+/// Runs into the file of `--output` or to standard output, and prints the counts of the records if
+/// they are requested.
 fn run_anywhere<R>(rt: &R, about: &AboutFiles, input: RunInput, has_summary: bool) -> u8
 where
     R: Files + Print + Eprint + AllocGlobal + Threads + Wait + Sync,
@@ -155,9 +156,9 @@ where
         → IsStatusOfRefusal (IsRunReason (run_texts input.entry) input.entry.workers) result }
 {
     let mut counting = if has_summary {
-        Counting::wanted()
+        Counting::of_records()
     } else {
-        Counting::unwanted()
+        Counting::nothing()
     };
     let status = run_to_output(rt, about, input, &mut counting);
     if status == DONE {
@@ -182,7 +183,7 @@ where
     }
 }
 
-// Where there is no memory for the lines, they are left out.
+// If memory runs out for the lines, they are left out.
 fn report_counts<R: Eprint + AllocGlobal>(rt: &R, counting: &Counting) {
     if let Some(counts) = counting.counts()
         && let Ok(lines) = summary_of(rt.alloc(), counts)

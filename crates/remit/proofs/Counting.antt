@@ -1,5 +1,5 @@
 -- The counts of a file's rows, which a reader returns one by one, and of all files.
-use Rattle.std.proofs.Common.{◌≡◌, ◌<◌, ◌≤◌, ◌+◌, ◌-◌, ℕ, zero, suc, List, [], ◌∷◌, ◌++◌, length, map, take, get_or, fold, ap, ap₂, sym, subst, ◌∙◌, refl, inl, inr, arith}
+use Rattle.std.proofs.Common.{◌≡◌, ◌<◌, ◌≤◌, ◌+◌, ◌-◌, ℕ, suc, pos, List, [], ◌∷◌, ◌++◌, length, map, get_or, fold, Option, ap, ap₂, sym, subst, ◌∙◌, refl, inl, inr, arith}
 use Rattle.std.specs.List.{AllZip}
 use Rattle.std.proofs.Math.ListN.{get_or-append}
 use Rattle.std.proofs.Math.Seq.{get_or-append_seam}
@@ -14,14 +14,17 @@ use Rattle.intake_csv.specs.declared.rows.Row.{Row}
 use Rattle.intake_csv.specs.declared.rows.Row.TheVariants.{Good, Bad}
 use Rattle.journal.specs.declared.event.Event.{Event}
 use Rattle.claim_gate.specs.Terms.{IsFinishedOver, TermsParts}
-use Rattle.remit.specs.Counts.{AreCounted, EachIsCounted, IsCounted, LeftIsCounted, counted, counts_of, no_records, status_of, status_of_row}
-use Rattle.remit.specs.Decided.{decided_as}
-use Rattle.remit.specs.Looked.{LaidOut, found_of, looked_up}
+use Rattle.remit.specs.Counts.{AreCounted, AreRunCounts, EachIsCounted, IsCounted, LeftIsCounted, counted, counts_of, no_records, status_of, status_of_row}
+use Rattle.remit.specs.Amounts.{amount_of}
+use Rattle.remit.specs.Decided.{decided_as, paid_outcomes, sum_of}
+use Rattle.remit.specs.Looked.{AreSums, LaidOut, found_of, looked_up}
 use Rattle.remit.specs.Records.{Deciding}
-use Rattle.remit.specs.Report.{reported_by_journal}
+use Rattle.remit.specs.declared.amount.Amount.TheVariants.{Paid}
 use Rattle.remit.specs.declared.counts.FileCounts.{FileCounts}
 use Rattle.remit.specs.declared.counts.RecordCounts.{RecordCounts}
+use Rattle.remit.specs.declared.counts.RunCounts.{RunCounts}
 use Rattle.remit.specs.declared.decisions.Decisions.{Decisions}
+use Rattle.remit.specs.declared.sums.Sums.{Sums}
 use Rattle.remit.proofs.Filing.{read-all}
 use Rattle.remit.proofs.Looking.{looked-right}
 use Rattle.remit.proofs.Passing.{Passed, passed-all, passed-next, passed-none}
@@ -93,7 +96,7 @@ files-next by names texts place files file so_far next =
     (subst (λ n. IsCounted by n names (get_or texts ((place + 1) - 1) []) file.counts) number next)) in
     subst (FilesCounted by names texts (place + 1)) (sym pushed)
     (record {
-      count = length_push counts file.counts ∙ ap suc so_far.count ∙ sym number;
+      count = length_push counts file.counts ∙ ap (λ n. n + 1) so_far.count;
       each = λ i below.
           elim (cases_lt i place) [
             | inl before ↦
@@ -155,3 +158,24 @@ counts-alike parts J providers decisions counts finished laid as_many counted_ea
                 ∙ ap (λ version. counts_of (reported version (decided_as J)) (suc i) file.rows) laid.version_is;
           };
     }
+
+-- all files are counted
+pub files-all : (by : Deciding) (names : List InputData) (texts : List (List ℕ)) (place : ℕ) (counts : List RecordCounts) → place ≡ length texts
+    → FilesCounted by names texts place counts → EachIsCounted by names texts counts
+files-all by names texts place counts all so_far = record {
+  count = so_far.count ∙ all;
+  each = λ i below. so_far.each i (subst (λ n. i < n) (sym all) below);
+}
+
+-- the counts and the sum of a run, whose journal is that of its batch
+pub run-counted : (parts other : TermsParts) (J K : List Event) (providers : ℕ) (decisions : Decisions) (sums : Sums) (counts : RunCounts) → other ≡ parts
+    → IsFinishedOver other K → J ≡ K → LaidOut parts.plan.version providers J decisions → providers ≡ length parts.files
+    → EachIsCounted (looked_up decisions) parts.plan.names parts.files (map (λ file. file.counts) counts.files.items) → AreSums J (length J) sums
+    → ((L : List Event) (count : ℕ) → AreSums L count sums → pos counts.paid ≡ sum_of (amount_of Paid) (paid_outcomes L)) → AreRunCounts parts K counts
+run-counted parts other J K providers decisions sums counts same finished alike laid as_many counted_each are paid =
+    let over : IsFinishedOver parts J = subst (λ p. IsFinishedOver p J) same (subst (IsFinishedOver other) (sym alike) finished) in
+    subst (λ L. AreRunCounts parts L counts) alike
+    (record {
+      files = counts-alike parts J providers decisions (map (λ file. file.counts) counts.files.items) over laid as_many counted_each;
+      paid = paid J (length J) are;
+    })

@@ -49,14 +49,14 @@ abbrev pub header_fields : ℕ → List (List ℕ)
 header_fields version = front_names version ++ (map name_of amounts ++ codes "remarks" ∷ [])
 
 -- the part of a record after the identifiers: its status and the fields that follow it
-pub record Told : Type 0 where
+pub record StatusFields : Type 0 where
   pub status : List ℕ
   pub reason : List ℕ
   pub amounts : List (List ℕ)
   pub remarks : List ℕ
 
 -- the fields of this part, in order
-abbrev pub status_fields : Told → List (List ℕ)
+abbrev pub status_fields : StatusFields → List (List ℕ)
 status_fields reported = reported.status ∷ reported.reason ∷ (reported.amounts ++ reported.remarks ∷ [])
 
 -- the amounts of an outcome, as money
@@ -72,22 +72,22 @@ abbrev pub no_amounts : List (List ℕ)
 no_amounts = map (λ amount. []) amounts
 
 -- the status part of a decided claim; a pended claim has a reason and no remarks
-abbrev pub reported_by : Verdict → Outcome → Told
+abbrev pub reported_by : Verdict → Outcome → StatusFields
 reported_by Paid decision = record { status = codes "paid"; reason = []; amounts = amounts_of decision; remarks = remarks_text decision.remarks }
 reported_by Denied decision = record { status = codes "denied"; reason = []; amounts = zeros; remarks = remarks_text decision.remarks }
 reported_by (Pended reason) decision = record { status = codes "pended"; reason = reason_text reason; amounts = zeros; remarks = [] }
 
 -- the status part of a claim; a claim without an outcome came too late to be accepted
-abbrev pub reported_of : Option Outcome → Told
+abbrev pub reported_of : Option Outcome → StatusFields
 reported_of (Some decision) = reported_by decision.verdict decision
 reported_of None = record { status = codes "late"; reason = []; amounts = no_amounts; remarks = [] }
 
 -- the status part of a refused record
-abbrev pub reported_refused : RowFault → Told
+abbrev pub reported_refused : RowFault → StatusFields
 reported_refused fault = record { status = codes "refused"; reason = fault_text fault; amounts = no_amounts; remarks = [] }
 
 -- the fields for a record of a provider's file: the provider, the record's number, the identifiers and the status part
-abbrev pub line_of : ℕ → ℕ → List (List ℕ) → Told → List (List ℕ)
+abbrev pub line_of : ℕ → ℕ → List (List ℕ) → StatusFields → List (List ℕ)
 line_of provider number whose reported = decimal provider ∷ decimal number ∷ (whose ++ status_fields reported)
 
 -- the identifiers of a claim; its benefit year is the year of its service

@@ -34,7 +34,7 @@ pub enum RecordStatus {
 impl RecordStatus {
     // Returns the status of a claim with this outcome. A claim without one was not accepted.
     fn of_outcome(outcome: Option<&Outcome>) -> RecordStatus
-        ensures { result ≡ status_of (outcome_in outcome) }
+        ensures { result ≡ status_of (outcome_in outcome.entry) }
     {
         let Some(outcome) = outcome else {
             return RecordStatus::Late;

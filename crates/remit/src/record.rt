@@ -89,7 +89,7 @@ pub fn fill_total(
     accepted: usize,
     sums: Sums,
 ) -> Result<(), AllocError>
-    ensures { OnOk result ((J : List AnyEvent) (count : ℕ) → accepted_count ≡ accepted_in J
+    ensures { OnOk result ((J : List AnyEvent) (count : ℕ) → accepted ≡ accepted_in J
         → AreSums J count sums → fields_of line.new ≡ total_fields version J) }
 {
     line.clear();
@@ -109,7 +109,7 @@ fn push_front_names(line: &mut ByteRecord, version: u8) -> Result<(), AllocError
 
 // Appends the fields of the totals before the amounts.
 fn push_total_front(line: &mut ByteRecord, version: u8, accepted: usize) -> Result<(), AllocError>
-    ensures { OnOk result (Pushes line.old line.new (total_front version accepted_count)) }
+    ensures { OnOk result (Pushes line.old line.new (total_front version accepted)) }
 {
     line.push_field(b"total")?;
     push_number(line, accepted)?;

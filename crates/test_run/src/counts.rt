@@ -50,7 +50,7 @@ fn expects_run(
     amount: &str,
 ) {
     let mut out = Out::new(Vec::new(rt.alloc()));
-    let mut counting = Counting::wanted();
+    let mut counting = Counting::of_records();
     let answer = do_counted_run(rt, run_of(both_files(), cutoff), &mut out, &mut counting);
     expects(rt, is_printed(answer, out, report), report);
     let Some(run) = counting.counts() else {
@@ -96,7 +96,7 @@ fn late_records_are_counted(rt: HostRuntime) {
 #[test]
 fn the_most_frequent_refusal_is_reported(rt: HostRuntime) {
     let mut out = Out::new(Vec::new(rt.alloc()));
-    let mut counting = Counting::wanted();
+    let mut counting = Counting::of_records();
     let files: [&[u8]; 1] = [REFUSED];
     let answer = do_counted_run(&rt, run_of(&files, None), &mut out, &mut counting);
     expects(&rt, answer.is_ok(), "a run");
@@ -118,9 +118,9 @@ fn the_most_frequent_refusal_is_reported(rt: HostRuntime) {
 }
 
 #[test]
-fn nothing_is_counted_where_it_is_not_wanted(rt: HostRuntime) {
+fn no_records_are_counted_unless_it_is_requested(rt: HostRuntime) {
     let mut out = Out::new(Vec::new(rt.alloc()));
-    let mut counting = Counting::unwanted();
+    let mut counting = Counting::nothing();
     let answer = do_counted_run(&rt, run_of(both_files(), None), &mut out, &mut counting);
     expects(&rt, answer.is_ok(), "a run");
     expects(&rt, counting.counts().is_none(), "no counts");
