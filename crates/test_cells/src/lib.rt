@@ -4,10 +4,10 @@
 #![tactic(auto)]
 
 #[cfg(test)]
+mod cell_faults;
+#[cfg(test)]
 mod cells;
 #[cfg(test)]
 mod ending;
-#[cfg(test)]
-mod faults;
 #[cfg(test)]
 mod numbers;
