@@ -1,5 +1,7 @@
 pub mod CellCauseNumber
 pub mod PlanCauseNumber
+pub mod BuiltInNames
+pub mod RoleKeys
 pub mod Role
 pub mod Reason
 pub mod ReasonText

@@ -1,6 +1,8 @@
 //! The roles of a plan that have numbers as values.
 ghost use Rattle.std.specs.Prelude.{◌≡◌};
-ghost use Rattle.faults.specs.Role.{number_of};
+ghost use Rattle.faults.specs.Role.{key_of, number_of};
+
+use crate::role_key::RoleKey;
 
 /// A role with a number as its value, which can be invalid for a claim.
 #[derive(Clone, Copy, Debug, PartialEq, Eq, Drop)]
@@ -22,18 +24,25 @@ pub enum Role {
 }
 
 impl Role {
+    /// Returns the same role among all roles of a plan.
+    pub fn key(self) -> RoleKey
+        ensures { result ≡ key_of self }
+    {
+        match self {
+            Role::Fee => RoleKey::Fee,
+            Role::Deductible => RoleKey::Deductible,
+            Role::Copay => RoleKey::Copay,
+            Role::Rate => RoleKey::Rate,
+            Role::OopMax => RoleKey::OopMax,
+            Role::FamilyDeductible => RoleKey::FamilyDeductible,
+            Role::FamilyOopMax => RoleKey::FamilyOopMax,
+        }
+    }
+
     /// Returns the number that messages print for the role, from 2 to 6, 8 or 9.
     pub fn number(self) -> u8
         ensures { result ≡ number_of self }
     {
-        match self {
-            Role::Fee => 2,
-            Role::Deductible => 3,
-            Role::Copay => 4,
-            Role::Rate => 5,
-            Role::OopMax => 6,
-            Role::FamilyDeductible => 8,
-            Role::FamilyOopMax => 9,
-        }
+        self.key().number()
     }
 }
