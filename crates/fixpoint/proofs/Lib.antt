@@ -6,3 +6,4 @@ pub mod ShortestText
 pub mod NearestCents
 pub mod MoneyText
 pub mod Puts
+pub mod Buffering

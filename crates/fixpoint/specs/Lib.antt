@@ -3,3 +3,4 @@ pub mod NumberText
 pub mod Out
 pub mod Reading
 pub mod Money
+pub mod BufferedOut
