@@ -4,6 +4,9 @@ use Rattle.std.proofs.lemmas.Option.{same_Some}
 use Rattle.toml.specs.Data.{Data, string, table as whole_table, get}
 use Rattle.feel_tests.specs.declared.cell.Cell.{Cell}
 use Rattle.feel_tests.specs.declared.value.Value.{Value}
+use Rattle.faults.specs.declared.role_key.RoleKey.{RoleKey}
+use Rattle.faults.specs.declared.role_key.RoleKey.TheVariants as keys
+use Rattle.faults.specs.RoleKeys.{key_of}
 use Rattle.feel_tests.specs.Cell.{SpellsOneCell, SpellsOneValue}
 use Rattle.dtable.specs.declared.hit.Hit.{Hit}
 use Rattle.dtable.specs.declared.roles.FamilyRoles.{FamilyRoles}
@@ -19,7 +22,7 @@ use Rattle.dtable.specs.declared.table.Rule.{Rule}
 use Rattle.dtable.specs.declared.table.Table.{Table}
 use Rattle.dtable.specs.Plan.{PlanParts, has_families, keeps_families}
 use Rattle.dtable.specs.PlanFile.{IsEntry, IsCellUnder, IsRule, AreRules, IsTable, AreTables, AreTablesOf, AreNames, IsPlanDocument, SpellsOnePlan}
-use Rattle.dtable.specs.RoleFile.{IsSource, IsRole, AreFamilyRoles, AreLimits, AreRoles, AreRemarks, asked_kind}
+use Rattle.dtable.specs.RoleFile.{IsSource, IsRole, AreFamilyRoles, AreLimits, AreRoles, AreRemarks, asked_by, asked_kind}
 use Rattle.dtable.specs.Scope.{SeenOutput, seen_of, taken_names}
 use Rattle.dtable.proofs.Entries.{Optionally-same, Each-same, EachAfter-same, EachUnder-same}
 use Rattle.dtable.proofs.ReadParts.{IsHit-same, AreNames-same, IsLiteral-same, IsCell-same, AreInputs-same, AreOutputs-same, version-same}
@@ -76,10 +79,10 @@ module _ (once_cell : SpellsOneCell) (once_value : SpellsOneValue) where
       let clash : Earlier h.1.table h.1.column ≡ Given q = same_Some (Earlier h.1.table h.1.column) (Given q) (sym h.1.known ∙ k.1.known) in cc
   IsSource-same names earlier ask text (OutputSource n) (OutputSource m) h k = ap OutputSource (h.1.same ∙ sym k.1.same)
 
-  IsRole-same : (names : List InputData) (earlier : List (List SeenOutput)) (ask : RoleKind) (key : List ℕ) (d : Data) (r s : Source) → IsRole names earlier ask key d r → IsRole names earlier ask key d s → r ≡ s
-  IsRole-same names earlier ask key d r s h k =
+  IsRole-same : (names : List InputData) (earlier : List (List SeenOutput)) (role : RoleKey) (d : Data) (r s : Source) → IsRole names earlier role d r → IsRole names earlier role d s → r ≡ s
+  IsRole-same names earlier role d r s h k =
       let texts : k.text ≡ h.text = same_Some k.text h.text (sym k.written ∙ h.written) in
-      IsSource-same names earlier ask h.text r s h.spelled (rw texts at k.spelled)
+      IsSource-same names earlier (asked_by role) h.text r s h.spelled (rw texts at k.spelled)
 
   AreRemarks-same : (earlier : List (List SeenOutput)) (d : Data) (a b : List ℕ) → AreRemarks earlier d a → AreRemarks earlier d b → a ≡ b
   AreRemarks-same earlier d a b h k =
@@ -90,8 +93,8 @@ module _ (once_cell : SpellsOneCell) (once_value : SpellsOneValue) where
   AreLimits-same : (names : List InputData) (earlier : List (List SeenOutput)) (d : Data) (l m : FamilyRoles) → AreLimits names earlier d l → AreLimits names earlier d m → l ≡ m
   AreLimits-same names earlier d l m h k =
       let same = IsRole-same names earlier in
-      let deductible : l.deductible ≡ m.deductible = same _ _ d l.deductible m.deductible h.deductible k.deductible in
-      let oop_max : l.oop_max ≡ m.oop_max = same _ _ d l.oop_max m.oop_max h.oop_max k.oop_max in
+      let deductible : l.deductible ≡ m.deductible = same _ d l.deductible m.deductible h.deductible k.deductible in
+      let oop_max : l.oop_max ≡ m.oop_max = same _ d l.oop_max m.oop_max h.oop_max k.oop_max in
       let made : Source → Source → FamilyRoles = λ e o. record { deductible = e; oop_max = o } in
       ap (λ x. made x l.oop_max) deductible ∙ ap (made m.deductible) oop_max
 
@@ -107,13 +110,13 @@ module _ (once_cell : SpellsOneCell) (once_value : SpellsOneValue) where
   AreRoles-same : (families : Bool) (names : List InputData) (earlier : List (List SeenOutput)) (d : Data) (r s : Roles) → AreRoles families names earlier d r → AreRoles families names earlier d s → r ≡ s
   AreRoles-same families names earlier d r s h k =
       let same = IsRole-same names earlier in
-      let remarks : r.remarks ≡ s.remarks = Optionally-same (AreRemarks earlier) (AreRemarks-same earlier) (get (codes "remarks") d) r.remarks s.remarks h.remarks k.remarks in
-      let cover : r.cover ≡ s.cover = same _ _ d r.cover s.cover h.cover k.cover in
-      let fee : r.fee ≡ s.fee = same _ _ d r.fee s.fee h.fee k.fee in
-      let deductible : r.deductible ≡ s.deductible = same _ _ d r.deductible s.deductible h.deductible k.deductible in
-      let copay : r.copay ≡ s.copay = same _ _ d r.copay s.copay h.copay k.copay in
-      let rate : r.rate ≡ s.rate = same _ _ d r.rate s.rate h.rate k.rate in
-      let oop_max : r.oop_max ≡ s.oop_max = same _ _ d r.oop_max s.oop_max h.oop_max k.oop_max in
+      let remarks : r.remarks ≡ s.remarks = Optionally-same (AreRemarks earlier) (AreRemarks-same earlier) (get (key_of keys.Remarks) d) r.remarks s.remarks h.remarks k.remarks in
+      let cover : r.cover ≡ s.cover = same _ d r.cover s.cover h.cover k.cover in
+      let fee : r.fee ≡ s.fee = same _ d r.fee s.fee h.fee k.fee in
+      let deductible : r.deductible ≡ s.deductible = same _ d r.deductible s.deductible h.deductible k.deductible in
+      let copay : r.copay ≡ s.copay = same _ d r.copay s.copay h.copay k.copay in
+      let rate : r.rate ≡ s.rate = same _ d r.rate s.rate h.rate k.rate in
+      let oop_max : r.oop_max ≡ s.oop_max = same _ d r.oop_max s.oop_max h.oop_max k.oop_max in
       let family : r.family ≡ s.family = AreFamilyRoles-same families names earlier d r.family s.family h.family k.family in
       let made : Source → Source → Source → Source → Source → Source → Option (List ℕ) → Option FamilyRoles → Roles =
       λ c f e p q o m l. record { cover = c; fee = f; deductible = e; copay = p; rate = q; oop_max = o; remarks = m; family = l } in

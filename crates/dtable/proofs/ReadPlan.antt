@@ -14,6 +14,9 @@ use Rattle.toml.specs.Parse.{parse_document}
 use Rattle.feel_tests.specs.Cell.{SpellsOneValue}
 use Rattle.faults.specs.declared.plan_fault.PlanFault.{PlanFault}
 use Rattle.faults.specs.declared.plan_fault.PlanCause.TheVariants.{OutOfMemory}
+use Rattle.faults.specs.declared.role_key.RoleKey.{RoleKey}
+use Rattle.faults.specs.declared.role_key.RoleKey.TheVariants as keys
+use Rattle.faults.specs.RoleKeys.{key_of}
 use Rattle.dtable.specs.Limits.{plan_limit_bytes}
 use Rattle.dtable.specs.Names.{names_of}
 use Rattle.dtable.specs.Reading.{Reads}
@@ -27,7 +30,6 @@ use Rattle.dtable.specs.declared.roles.Roles.{Roles}
 use Rattle.dtable.specs.declared.roles.Source.{Source}
 use Rattle.dtable.specs.declared.roles.Source.TheVariants.{Literal, Input as InputSource, Output as OutputSource}
 use Rattle.dtable.specs.declared.reading.roles.RoleKind.{RoleKind}
-use Rattle.dtable.specs.declared.reading.roles.RoleKind.TheVariants as asked
 use Rattle.dtable.specs.declared.table.InputData.{InputData}
 use Rattle.dtable.specs.declared.table.Input.{Input}
 use Rattle.dtable.specs.declared.table.Origin.{Origin}
@@ -39,7 +41,7 @@ use Rattle.dtable.specs.Document.{optional_array_at, Optionally, Each, EachAfter
 use Rattle.dtable.specs.Environment.{or_else}
 use Rattle.dtable.specs.Plan.{PlanParts, IsPlan, same_kind, has_kind, gives_one, read_kind_of, is_known, are_known, entry_fits, rule_fits, is_ranked, satisfies_constraints, default_fits, some_output, source_fits, remarks_fit, family_roles_fit, roles_fit, has_families, keeps_families}
 use Rattle.dtable.specs.PlanFile.{IsLiteral, IsEntry, IsInput, IsOutput, IsRule, IsCellUnder, AreFields, AreNames, IsTable, AreTables, AreTablesOf, IsPlanDocument, IsPlanText, IsVersionOf}
-use Rattle.dtable.specs.RoleFile.{IsSource, IsRole, AreFamilyRoles, AreRoles, AreRemarks, asked_kind, lists_texts}
+use Rattle.dtable.specs.RoleFile.{IsSource, IsRole, AreFamilyRoles, AreRoles, AreRemarks, asked_by, asked_kind, lists_texts}
 use Rattle.dtable.specs.Scope.{SeenOutput, seen_output, seen_of, earlier_origin, kind_at}
 use Rattle.dtable.proofs.DistinctNames.{distinct-document}
 use Rattle.dtable.proofs.FoundOutput.{IsFound, found}
@@ -209,8 +211,8 @@ source_by p ask text (InputSource place) h = given_fits (asked_kind ask) (slice_
 source_by p ask text (OutputSource name) h =
     rw h.1.same (output_fits_by p.names p.tables text (asked_kind ask) h.1.table h.1.column (position (λ d. bytes_eq d.name text) p.names) h.1.known h.1.of_kind)
 
-source_ok : (p : PlanParts) (ask : RoleKind) (key : List ℕ) (d : Data) (source : Source) → IsRole p.names (map seen_of p.tables) ask key d source → source_fits p.names p.tables (asked_kind ask) source ≡ true
-source_ok p ask key d source h = source_by p ask h.text source h.spelled
+source_ok : (p : PlanParts) (role : RoleKey) (d : Data) (source : Source) → IsRole p.names (map seen_of p.tables) role d source → source_fits p.names p.tables (asked_kind (asked_by role)) source ≡ true
+source_ok p role d source h = source_by p (asked_by role) h.text source h.spelled
 
 -- remarks fit
 text_same : (hit : Hit) (kind : Kind) → (not (gives_one hit) && same_kind kinds.Text (read_kind_of hit kind)) ≡ (not (gives_one hit) && same_kind kinds.Text kind)
@@ -243,8 +245,8 @@ family_ok p true d None kept h = absurd h
 family_ok p true d (Some limits) kept h =
     rw (
       kept,
-      source_ok p asked.Money (codes "family_deductible") d limits.deductible h.deductible,
-      source_ok p asked.Money (codes "family_oop_max") d limits.oop_max h.oop_max,
+      source_ok p keys.FamilyDeductible d limits.deductible h.deductible,
+      source_ok p keys.FamilyOopMax d limits.oop_max h.oop_max,
     )
 
 roles_ok : (p : PlanParts) (o : Option Data) (roles : Option Roles) → Optionally (AreRoles (keeps_families p) p.names (map seen_of p.tables)) o roles → option_map_or (roles_fit p) roles true ≡ true
@@ -253,13 +255,13 @@ roles_ok p None (Some r) h = absurd h
 roles_ok p (Some d) None h = absurd h
 roles_ok p (Some d) (Some r) h =
     rw (
-      source_ok p asked.Flag (codes "cover") d r.cover h.cover,
-      source_ok p asked.Money (codes "fee") d r.fee h.fee,
-      source_ok p asked.Money (codes "deductible") d r.deductible h.deductible,
-      source_ok p asked.Money (codes "copay") d r.copay h.copay,
-      source_ok p asked.Rate (codes "rate") d r.rate h.rate,
-      source_ok p asked.Money (codes "oop_max") d r.oop_max h.oop_max,
-      remarks_ok p.tables (get (codes "remarks") d) r.remarks h.remarks,
+      source_ok p keys.Cover d r.cover h.cover,
+      source_ok p keys.Fee d r.fee h.fee,
+      source_ok p keys.Deductible d r.deductible h.deductible,
+      source_ok p keys.Copay d r.copay h.copay,
+      source_ok p keys.Rate d r.rate h.rate,
+      source_ok p keys.OopMax d r.oop_max h.oop_max,
+      remarks_ok p.tables (get (key_of keys.Remarks) d) r.remarks h.remarks,
     ) (family_ok p (keeps_families p) d r.family refl h.family)
 
 pub IsPlan-of : (d : Data) (p : PlanParts) → IsPlanDocument d p → IsPlan p

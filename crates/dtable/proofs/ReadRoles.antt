@@ -8,6 +8,8 @@ use Rattle.feel_tests.specs.declared.value.Value.{Value}
 use Rattle.feel_tests.specs.Cell.{SpellsValue, SpellsOneValue}
 use Rattle.feel_tests.specs.Value.{kind_of}
 use Rattle.faults.specs.declared.plan_fault.PlanFault.{PlanFault}
+use Rattle.faults.specs.declared.role_key.RoleKey.{RoleKey}
+use Rattle.faults.specs.RoleKeys.{key_of}
 use Rattle.dtable.specs.declared.roles.FamilyRoles.{FamilyRoles}
 use Rattle.dtable.specs.declared.roles.Roles.{Roles}
 use Rattle.dtable.specs.declared.roles.Source.{Source}
@@ -18,7 +20,7 @@ use Rattle.dtable.specs.declared.table.Origin.{Origin}
 use Rattle.dtable.specs.declared.table.Origin.TheVariants.{Given, Earlier}
 use Rattle.dtable.specs.Document.{string_at}
 use Rattle.dtable.specs.Reading.{Reads}
-use Rattle.dtable.specs.RoleFile.{IsSource, IsNamedSource, SpellsNone, IsRole, AreFamilyRoles, AreLimits, AreRoles, Meets, asked_kind}
+use Rattle.dtable.specs.RoleFile.{IsSource, IsNamedSource, SpellsNone, IsRole, AreFamilyRoles, AreLimits, AreRoles, Meets, asked_by, asked_kind}
 use Rattle.dtable.specs.Scope.{SeenOutput, origin_of, kind_at}
 
 module _ (names : List InputData) (earlier : List (List SeenOutput)) where
@@ -62,13 +64,18 @@ module _ (names : List InputData) (earlier : List (List SeenOutput)) where
   source_literal once asked text value spelled kind (Err fault) same meets unmet = λ memory. literal_unmet once asked text value spelled unmet
 
   -- the string at a role's key
-  pub role_made : (asked : RoleKind) (key : List ℕ) (d : Data) (text : List ℕ) → string_at key d ≡ Some text → (s : Source) → IsSource names earlier asked text s → IsRole names earlier asked key d s
-  role_made asked key d text read s h = record { text = text; written = read; spelled = h }
+  pub role_made : (role : RoleKey) (asked : RoleKind) (d : Data) (text : List ℕ) → asked ≡ asked_by role → string_at (key_of role) d ≡ Some text
+      → (s : Source) → IsSource names earlier asked text s → IsRole names earlier role d s
+  role_made role asked d text same read s h = record { text = text; written = read; spelled = subst (λ a. IsSource names earlier a text s) same h }
 
-  pub role_source : (asked : RoleKind) (key : List ℕ) (d : Data) (text : List ℕ) → string_at key d ≡ Some text → (s : Source) → IsRole names earlier asked key d s → IsSource names earlier asked text s
-  role_source asked key d text read s h =
+  pub role_source : (role : RoleKey) (asked : RoleKind) (d : Data) (text : List ℕ) → asked ≡ asked_by role → string_at (key_of role) d ≡ Some text
+      → (s : Source) → IsRole names earlier role d s → IsSource names earlier asked text s
+  role_source role asked d text by read s h =
       let same : h.text ≡ text = same_Some h.text text (sym h.written ∙ read) in
-      rw same at h.spelled
+      subst (λ a. IsSource names earlier a text s) (sym by) (subst (λ t. IsSource names earlier (asked_by role) t s) same h.spelled)
+
+  pub no_role : (role : RoleKey) (d : Data) → string_at (key_of role) d ≡ None → (s : Source) → ¬ IsRole names earlier role d s
+  no_role role d none s h = let clash : None ≡ Some h.text = sym none ∙ h.written in cc
 
   -- the family's limits exist only if the plan has families
   pub no_limits_kept : (families : Bool) (d : Data) → families ≡ false → AreFamilyRoles families names earlier d None

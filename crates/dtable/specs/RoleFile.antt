@@ -3,6 +3,9 @@ use Rattle.std.specs.Prelude.{◌≡◌, ℕ, Bool, true, false, not, ◌&&◌, 
 use Rattle.std.specs.List.{list_any}
 use Rattle.std.specs.Str.{bytes_eq}
 use Rattle.toml.specs.Data.{Data, string, get}
+use Rattle.faults.specs.declared.role_key.RoleKey.{RoleKey}
+use Rattle.faults.specs.declared.role_key.RoleKey.TheVariants as keys
+use Rattle.faults.specs.RoleKeys.{key_of}
 use Rattle.fixpoint.specs.Money.{IsMoney, IsRate}
 use Rattle.feel_tests.specs.declared.kind.Kind.{Kind}
 use Rattle.feel_tests.specs.declared.kind.Kind.TheVariants as kinds
@@ -14,19 +17,34 @@ use Rattle.dtable.specs.declared.roles.FamilyRoles.{FamilyRoles}
 use Rattle.dtable.specs.declared.roles.Roles.{Roles}
 use Rattle.dtable.specs.declared.roles.Source.{Source}
 use Rattle.dtable.specs.declared.roles.Source.TheVariants.{Literal, Input, Output}
+use Rattle.dtable.specs.declared.reading.roles.Benefits.{Benefits}
 use Rattle.dtable.specs.declared.reading.roles.RoleKind.{RoleKind}
-use Rattle.dtable.specs.declared.reading.roles.RoleKind.TheVariants.{Flag, Money, Rate}
+use Rattle.dtable.specs.declared.reading.roles.RoleKind.TheVariants.{Flag, Money, Rate, Texts}
+use Rattle.dtable.specs.declared.reading.roles.Shares.{Shares}
 use Rattle.dtable.specs.declared.table.InputData.{InputData}
 use Rattle.dtable.specs.declared.table.Origin.TheVariants.{Given, Earlier}
 use Rattle.dtable.specs.Document.{string_at, Optionally}
 use Rattle.dtable.specs.Plan.{same_kind}
 use Rattle.dtable.specs.Scope.{SeenOutput, origin_of, kind_at}
 
+-- what the value of a role must be
+abbrev pub asked_by : RoleKey → RoleKind
+asked_by keys.Cover = Flag
+asked_by keys.Fee = Money
+asked_by keys.Deductible = Money
+asked_by keys.Copay = Money
+asked_by keys.Rate = Rate
+asked_by keys.OopMax = Money
+asked_by keys.Remarks = Texts
+asked_by keys.FamilyDeductible = Money
+asked_by keys.FamilyOopMax = Money
+
 -- the kind of a required value
 abbrev pub asked_kind : RoleKind → Kind
 asked_kind Flag = kinds.Flag
 asked_kind Money = kinds.Number
 asked_kind Rate = kinds.Number
+asked_kind Texts = kinds.Text
 
 -- the value meets the requirement: any flag, an amount of money, or a rate
 abbrev pub Meets : RoleKind → Value → Type 0
@@ -72,10 +90,10 @@ IsSource names earlier asked text (Input place) = SpellsNone (asked_kind asked) 
 IsSource names earlier asked text (Output name) = SpellsNone (asked_kind asked) text × IsNamedSource names earlier (asked_kind asked) text (Output name)
 
 -- the string at a role's key denotes this source
-pub record IsRole (names : List InputData) (earlier : List (List SeenOutput)) (asked : RoleKind) (key : List ℕ) (roles : Data) (source : Source) : Type 0 where
+pub record IsRole (names : List InputData) (earlier : List (List SeenOutput)) (role : RoleKey) (roles : Data) (source : Source) : Type 0 where
   pub text : List ℕ
-  pub written : string_at key roles ≡ Some text
-  pub spelled : IsSource names earlier asked text source
+  pub written : string_at (key_of role) roles ≡ Some text
+  pub spelled : IsSource names earlier (asked_by role) text source
 
 -- an output with this name lists texts
 abbrev pub lists_texts : List (List SeenOutput) → List ℕ → Bool
@@ -87,22 +105,22 @@ pub record AreRemarks (earlier : List (List SeenOutput)) (entry : Data) (name : 
   pub lists : IsTrue (lists_texts earlier name)
 
 -- the roles for the coverage of a claim: a flag and two amounts of money
-pub record AreBenefits (names : List InputData) (earlier : List (List SeenOutput)) (entry : Data) (its_cover its_fee its_deductible : Source) : Type 0 where
-  pub cover : IsRole names earlier Flag (codes "cover") entry its_cover
-  pub fee : IsRole names earlier Money (codes "fee") entry its_fee
-  pub deductible : IsRole names earlier Money (codes "deductible") entry its_deductible
+pub record AreBenefits (names : List InputData) (earlier : List (List SeenOutput)) (entry : Data) (benefits : Benefits) : Type 0 where
+  pub cover : IsRole names earlier keys.Cover entry benefits.cover
+  pub fee : IsRole names earlier keys.Fee entry benefits.fee
+  pub deductible : IsRole names earlier keys.Deductible entry benefits.deductible
 
 -- the roles for the cost share of a member: an amount of money, a rate, and the out-of-pocket
 -- maximum
-pub record AreShares (names : List InputData) (earlier : List (List SeenOutput)) (entry : Data) (its_copay its_rate its_oop_max : Source) : Type 0 where
-  pub copay : IsRole names earlier Money (codes "copay") entry its_copay
-  pub rate : IsRole names earlier Rate (codes "rate") entry its_rate
-  pub oop_max : IsRole names earlier Money (codes "oop_max") entry its_oop_max
+pub record AreShares (names : List InputData) (earlier : List (List SeenOutput)) (entry : Data) (shares : Shares) : Type 0 where
+  pub copay : IsRole names earlier keys.Copay entry shares.copay
+  pub rate : IsRole names earlier keys.Rate entry shares.rate
+  pub oop_max : IsRole names earlier keys.OopMax entry shares.oop_max
 
 -- the limits of the family: two amounts of money
 pub record AreLimits (names : List InputData) (earlier : List (List SeenOutput)) (entry : Data) (limits : FamilyRoles) : Type 0 where
-  pub deductible : IsRole names earlier Money (codes "family_deductible") entry limits.deductible
-  pub oop_max : IsRole names earlier Money (codes "family_oop_max") entry limits.oop_max
+  pub deductible : IsRole names earlier keys.FamilyDeductible entry limits.deductible
+  pub oop_max : IsRole names earlier keys.FamilyOopMax entry limits.oop_max
 
 -- the limits of the family if the plan has families, and none otherwise, whatever the keys are
 abbrev pub AreFamilyRoles : Bool → List InputData → List (List SeenOutput) → Data → Option FamilyRoles → Type 0
@@ -114,11 +132,11 @@ AreFamilyRoles true names earlier entry (Some limits) = AreLimits names earlier 
 -- the table `roles`: a flag, amounts of money and a rate, the output of the remarks, if any, and
 -- the limits of the family if the plan has families
 pub record AreRoles (families : Bool) (names : List InputData) (earlier : List (List SeenOutput)) (entry : Data) (roles : Roles) : Type 0 where
-  pub cover : IsRole names earlier Flag (codes "cover") entry roles.cover
-  pub fee : IsRole names earlier Money (codes "fee") entry roles.fee
-  pub deductible : IsRole names earlier Money (codes "deductible") entry roles.deductible
-  pub copay : IsRole names earlier Money (codes "copay") entry roles.copay
-  pub rate : IsRole names earlier Rate (codes "rate") entry roles.rate
-  pub oop_max : IsRole names earlier Money (codes "oop_max") entry roles.oop_max
-  pub remarks : Optionally (AreRemarks earlier) (get (codes "remarks") entry) roles.remarks
+  pub cover : IsRole names earlier keys.Cover entry roles.cover
+  pub fee : IsRole names earlier keys.Fee entry roles.fee
+  pub deductible : IsRole names earlier keys.Deductible entry roles.deductible
+  pub copay : IsRole names earlier keys.Copay entry roles.copay
+  pub rate : IsRole names earlier keys.Rate entry roles.rate
+  pub oop_max : IsRole names earlier keys.OopMax entry roles.oop_max
+  pub remarks : Optionally (AreRemarks earlier) (get (key_of keys.Remarks) entry) roles.remarks
   pub family : AreFamilyRoles families names earlier entry roles.family

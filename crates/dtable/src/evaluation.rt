@@ -12,6 +12,7 @@ mod single;
 use crate::answers::{Answers, AnswersByTable};
 use crate::environment::{Answer, Env};
 use crate::hit::Hit;
+use crate::input_classes::InputClasses;
 use crate::inputs::Inputs;
 use crate::plan::Plan;
 use crate::table::Table;
@@ -26,9 +27,6 @@ use std::alloc::Global;
 impl Valuer for Plan {
     ghost plan_of = { λ plan. plan };
 
-    // A plan that is not compiled has no input classes.
-    ghost in_class = { λ plan given input_class. ⊥ };
-
     fn plan(&self) -> &Plan {
         self
     }
@@ -37,6 +35,11 @@ impl Valuer for Plan {
         let answers = answers_of(alloc, inputs, self.tables())?;
         Ok(Env::new(self.tables(), answers))
     }
+}
+
+// A plan that is not compiled has no input classes.
+impl InputClasses for Plan {
+    ghost in_class = { λ plan given input_class. ⊥ };
 
     fn input_class(&self, _inputs: &Inputs) -> Option<u64> {
         None

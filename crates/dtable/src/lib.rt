@@ -3,9 +3,10 @@
 //! A `Plan` names the input data of a claim and has `Table`s in order of evaluation. `Inputs` takes
 //! a value for each name that a table reads. `Plan::value` evaluates the tables and returns an
 //! `Env`, which has the answer of each output by its name, or the first `Fault`. `Valuer` is the
-//! contract of every evaluator of a plan. Cells and values come from `feel_tests`, faults from
-//! `faults`, numbers from `fixpoint`, the reader of TOML from `toml`, and the list of the
-//! tables' answers from `smallvec`.
+//! contract of every evaluator of a plan, and `InputClasses` that of an evaluator with classes of
+//! inputs. Cells and values come from `feel_tests`, faults and the names of roles and columns from
+//! `faults`, numbers from `fixpoint`, the reader of TOML from `toml`, and the list of the tables'
+//! answers from `smallvec`.
 //!
 //! Begin with `specs/Plan.antt`, which states what holds for every plan, and go on with
 //! `specs/Matching.antt`, `specs/HitPolicy.antt` and `specs/Environment.antt`, which define the
@@ -18,6 +19,7 @@ mod environment;
 mod evaluation;
 mod hit;
 mod hit_constraints;
+mod input_classes;
 mod inputs;
 mod name;
 mod output_place;
@@ -38,6 +40,7 @@ pub use faults::{Fault, PlanCause, PlanFault};
 pub use feel_tests::Sequence;
 pub use hit::Hit;
 pub use hit_constraints::has_kind;
+pub use input_classes::InputClasses;
 pub use inputs::{Inputs, Slot};
 pub use name::{NAME_LIMIT_BYTES, Name};
 pub use output_place::OutputPlace;

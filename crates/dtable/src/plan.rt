@@ -15,6 +15,9 @@ use crate::name::Name;
 use crate::output_place::{OutputPlace, place_named};
 use crate::roles::Roles;
 use crate::table::{InputData, Table};
+use faults::names::{
+    BILLED, CLAIM, FAMILY, FAMILY_MET, FAMILY_OOP, MEMBER, MET, OOP, PAID, SERVICE,
+};
 use feel_tests::{Kind, Sequence};
 use std::alloc::{AllocError, Global};
 use std::marker::Model;
@@ -182,12 +185,12 @@ fn for_member(
 ) -> Result<(), AllocError>
     ensures { OnOk result (names.new ≡ names.old ++ accumulator_names families) }
 {
-    push_number(alloc, "met", names)?;
-    push_number(alloc, "oop", names)?;
-    push_number(alloc, "paid", names)?;
+    push_number(alloc, MET, names)?;
+    push_number(alloc, OOP, names)?;
+    push_number(alloc, PAID, names)?;
     if families {
-        push_number(alloc, "fmet", names)?;
-        push_number(alloc, "foop", names)?;
+        push_number(alloc, FAMILY_MET, names)?;
+        push_number(alloc, FAMILY_OOP, names)?;
     }
     Ok(())
 }
@@ -199,13 +202,13 @@ fn for_claim(
 ) -> Result<(), AllocError>
     ensures { OnOk result (names.new ≡ claim_names families ++ names.old) }
 {
-    put_first(alloc, "billed", Kind::Number, names)?;
-    put_first(alloc, "service", Kind::Day, names)?;
-    put_first(alloc, "member", Kind::Text, names)?;
+    put_first(alloc, BILLED, Kind::Number, names)?;
+    put_first(alloc, SERVICE, Kind::Day, names)?;
+    put_first(alloc, MEMBER, Kind::Text, names)?;
     if families {
-        put_first(alloc, "family", Kind::Text, names)?;
+        put_first(alloc, FAMILY, Kind::Text, names)?;
     }
-    put_first(alloc, "claim", Kind::Text, names)
+    put_first(alloc, CLAIM, Kind::Text, names)
 }
 
 fn push_number(alloc: Global, name: &str, names: &mut Sequence<InputData>) -> Result<(), AllocError>

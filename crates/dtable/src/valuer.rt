@@ -1,9 +1,8 @@
 //! The contract of every evaluator of a plan.
-ghost use Rattle.std.specs.Prelude.{◌≡◌, ℕ, List, Ok, IfOk, IfErr, IfSome};
+ghost use Rattle.std.specs.Prelude.{◌≡◌, Ok, IfOk, IfErr};
 ghost use Rattle.dtable.specs.Environment.{env};
 ghost use Rattle.dtable.specs.HitPolicy.{IsFaultOf};
 ghost use Rattle.dtable.specs.Inputs.{IsReady};
-ghost use Rattle.dtable.specs.declared.inputs.Slot.{Slot};
 ghost use Rattle.dtable.specs.Plan.{PlanParts};
 
 use crate::environment::Env;
@@ -17,9 +16,6 @@ pub trait Valuer {
     /// The plan that is evaluated.
     ghost plan_of: { Self → PlanParts };
 
-    /// The inputs lie in the input class with this number.
-    ghost in_class: { Self → List Slot → ℕ → Type 0 };
-
     /// Returns the plan.
     fn plan(&self) -> &Plan
         ensures { result.now ≡ plan_of self.now };
@@ -30,12 +26,4 @@ pub trait Valuer {
         ensures value { IfOk result (λ environment. env (plan_of self.now) inputs.now
             ≡ Ok environment) }
         ensures fault { IfErr result (IsFaultOf (env (plan_of self.now) inputs.now)) };
-
-    /// Returns the number of the input class that contains the inputs, if it is known. The tables
-    /// have the same value for all inputs of a class.
-    fn input_class(&self, inputs: &Inputs) -> Option<u64>
-        ensures inside { IfSome result (in_class self.now inputs.now) }
-        ensures alike { IfSome result (λ input_class. (other : List Slot)
-            → in_class self.now other input_class
-            → env (plan_of self.now) other ≡ env (plan_of self.now) inputs.now) };
 }

@@ -14,7 +14,7 @@ use super::names::read_name;
 use super::place::FaultLocation;
 use super::scope::{kind_at, origin_of};
 use crate::table::{Input, InputData, Origin, Table};
-use faults::{PlanCause, PlanFault};
+use faults::{Ordinal, PlanCause, PlanFault};
 use feel_tests::{Cell, Sequence};
 use std::alloc::Global;
 use toml::Value;
@@ -33,10 +33,20 @@ pub fn read_inputs(
     if entries.is_empty() {
         return Err(place.fault(PlanCause::Kind));
     }
-    check_count(entries, INPUTS_LIMIT, place.in_column(INPUTS_LIMIT + 1))?;
+    check_count(
+        entries,
+        INPUTS_LIMIT,
+        place.in_column(Ordinal::at(INPUTS_LIMIT)),
+    )?;
     let mut inputs = Sequence::new(alloc);
     for (index, entry) in entries.iter().enumerate() {
-        let input = read_input(alloc, entry, names, tables, place.in_column(index + 1))?;
+        let input = read_input(
+            alloc,
+            entry,
+            names,
+            tables,
+            place.in_column(Ordinal::at(index)),
+        )?;
         inputs.push(input)?;
     }
     Ok(inputs)

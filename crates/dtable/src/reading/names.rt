@@ -13,18 +13,28 @@ use super::scope::is_taken_field;
 use crate::name::{NAME_LIMIT_BYTES, Name};
 use crate::plan::all_names;
 use crate::table::InputData;
-use faults::{PlanCause, PlanFault};
+use faults::{Ordinal, PlanCause, PlanFault, names};
 use feel_tests::{Kind, Sequence, is_name_byte, is_name_start};
 use std::alloc::Global;
 use toml::Value;
 
 /// The reserved names: a claim's own columns, a member's accumulators, and the words of cells.
 const RESERVED_NAMES: [&str; 11] = [
-    "claim", "member", "service", "billed", "met", "oop", "paid", "true", "false", "not", "date",
+    names::CLAIM,
+    names::MEMBER,
+    names::SERVICE,
+    names::BILLED,
+    names::MET,
+    names::OOP,
+    names::PAID,
+    "true",
+    "false",
+    "not",
+    "date",
 ];
 
 /// The names that are reserved in addition if accumulators are kept for families.
-const FAMILY_NAMES: [&str; 3] = ["family", "fmet", "foop"];
+const FAMILY_NAMES: [&str; 3] = [names::FAMILY, names::FAMILY_MET, names::FAMILY_OOP];
 
 /// Reads the fields of a document and returns all names of the plan, including the names that every
 /// plan has.
@@ -51,7 +61,7 @@ fn read_fields(
     check_count(
         entries,
         FIELDS_LIMIT,
-        FaultLocation::TEXT.in_column(FIELDS_LIMIT + 1),
+        FaultLocation::TEXT.in_column(Ordinal::at(FIELDS_LIMIT)),
     )?;
     let mut fields = Sequence::new(alloc);
     for (index, entry) in entries.iter().enumerate() {
@@ -60,7 +70,7 @@ fn read_fields(
             families,
             entry,
             fields.as_slice(),
-            FaultLocation::TEXT.in_column(index + 1),
+            FaultLocation::TEXT.in_column(Ordinal::at(index)),
         )?;
         fields.push(field)?;
     }

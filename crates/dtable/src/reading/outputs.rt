@@ -17,7 +17,7 @@ use crate::hit::Hit;
 use crate::hit_constraints::is_listed;
 use crate::name::Name;
 use crate::table::{Input, InputData, Output, Table};
-use faults::{PlanCause, PlanFault};
+use faults::{Ordinal, PlanCause, PlanFault};
 use feel_tests::{Kind, Sequence, Value as Literal, text_spells_at_most_one_value};
 use std::alloc::Global;
 use toml::Value;
@@ -42,11 +42,11 @@ pub fn read_outputs(
     check_count(
         entries,
         OUTPUTS_LIMIT,
-        place.in_column(inputs.len() + OUTPUTS_LIMIT + 1),
+        place.in_column(Ordinal::at(inputs.len() + OUTPUTS_LIMIT)),
     )?;
     let mut outputs = Sequence::new(alloc);
     for (index, entry) in entries.iter().enumerate() {
-        let column = place.in_column(inputs.len() + index + 1);
+        let column = place.in_column(Ordinal::at(inputs.len() + index));
         let output = read_output(alloc, entry, hit, names, tables, outputs.as_slice(), column)?;
         outputs.push(output)?;
     }

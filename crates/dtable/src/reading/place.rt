@@ -1,7 +1,7 @@
 //! The location of a fault in a plan's text.
 ghost use Rattle.std.specs.Prelude.{◌≡◌, ◌≢◌};
 
-use faults::{PlanCause, PlanFault};
+use faults::{Ordinal, PlanCause, PlanFault, RoleKey};
 use feel_tests::{CellCause, CellFault};
 use std::alloc::AllocError;
 
@@ -22,22 +22,39 @@ impl FaultLocation {
         column: 0,
     };
 
-    pub fn in_table(self, table: usize) -> FaultLocation
+    pub fn in_table(self, table: Ordinal) -> FaultLocation
         ensures { result ≡ record self { table = table } }
     {
-        FaultLocation { table, ..self }
+        FaultLocation {
+            table: table.number(),
+            ..self
+        }
     }
 
-    pub fn in_rule(self, rule: usize) -> FaultLocation
+    pub fn in_rule(self, rule: Ordinal) -> FaultLocation
         ensures { result ≡ record self { rule = rule } }
     {
-        FaultLocation { rule, ..self }
+        FaultLocation {
+            rule: rule.number(),
+            ..self
+        }
     }
 
-    pub fn in_column(self, column: usize) -> FaultLocation
+    pub fn in_column(self, column: Ordinal) -> FaultLocation
         ensures { result ≡ record self { column = column } }
     {
-        FaultLocation { column, ..self }
+        FaultLocation {
+            column: column.number(),
+            ..self
+        }
+    }
+
+    /// The location of a fault of a role, whose number stands for a column.
+    pub fn of_role(role: RoleKey) -> FaultLocation {
+        FaultLocation {
+            column: usize::from(role.number()),
+            ..FaultLocation::TEXT
+        }
     }
 
     pub fn fault(self, cause: PlanCause) -> PlanFault

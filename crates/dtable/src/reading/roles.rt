@@ -5,12 +5,14 @@ ghost use Rattle.std.specs.List.{list_any};
 ghost use Rattle.std.specs.Str.{bytes_eq};
 ghost use Rattle.toml.specs.Data.{get};
 ghost use Rattle.toml.specs.View.{view};
+ghost use Rattle.faults.specs.declared.role_key.RoleKey.TheVariants as role_keys;
+ghost use Rattle.faults.specs.RoleKeys.{key_of};
 ghost use Rattle.feel_tests.specs.declared.kind.Kind.TheVariants as kinds;
 ghost use Rattle.dtable.specs.Document.{string_at, Optionally};
 ghost use Rattle.dtable.specs.Limits.{name_limit_bytes};
 ghost use Rattle.dtable.specs.Plan.{same_kind};
 ghost use Rattle.dtable.specs.Reading.{Reads};
-ghost use Rattle.dtable.specs.RoleFile.{AreBenefits, AreFamilyRoles, AreLimits, AreRoles, AreRemarks, AreShares, IsRole, IsSource, IsNamedSource, IsLiteralSource, Meets, asked_kind, lists_texts};
+ghost use Rattle.dtable.specs.RoleFile.{AreBenefits, AreFamilyRoles, AreLimits, AreRoles, AreRemarks, AreShares, IsRole, IsSource, IsNamedSource, IsLiteralSource, Meets, asked_by, asked_kind, lists_texts};
 ghost use Rattle.dtable.specs.Scope.{seen_of};
 
 use super::place::FaultLocation;
@@ -18,7 +20,7 @@ use super::scope::{kind_at, origin_of};
 use crate::name::Name;
 use crate::roles::{FamilyRoles, Roles, Source};
 use crate::table::{InputData, Origin, Output, Table};
-use faults::{PlanCause, PlanFault};
+use faults::{PlanCause, PlanFault, RoleKey};
 use feel_tests::{CellCause, Kind, Value as Literal, read_value, text_spells_at_most_one_value};
 use std::alloc::{AllocError, Global};
 use toml::Value;
@@ -32,6 +34,24 @@ pub enum RoleKind {
     Money,
     /// The value must be a number from 0 to 1.
     Rate,
+    /// The role has no value of its own: it names an output that lists texts.
+    Texts,
+}
+
+/// The roles that say what a service gets.
+#[derive(Drop)]
+pub struct Benefits {
+    pub cover: Source,
+    pub fee: Source,
+    pub deductible: Source,
+}
+
+/// The roles that say what a member pays.
+#[derive(Drop)]
+pub struct Shares {
+    pub copay: Source,
+    pub rate: Source,
+    pub oop_max: Source,
 }
 
 /// Reads the roles of a document, if it has any. The family's limits are among them if the plan
@@ -74,38 +94,46 @@ fn read_role_table(
     };
     let benefits = read_benefits(alloc, &table)?;
     let shares = read_shares(alloc, &table)?;
-    let remarks = read_remarks(alloc, roles, tables, FaultLocation::TEXT.in_column(7))?;
+    let remarks = read_remarks(alloc, &table)?;
     let family = read_family_roles(alloc, &table, families)?;
     Ok(Roles {
-        cover: benefits.0,
-        fee: benefits.1,
-        deductible: benefits.2,
-        copay: shares.0,
-        rate: shares.1,
-        oop_max: shares.2,
+        cover: benefits.cover,
+        fee: benefits.fee,
+        deductible: benefits.deductible,
+        copay: shares.copay,
+        rate: shares.rate,
+        oop_max: shares.oop_max,
         remarks,
         family,
     })
 }
 
-fn read_benefits(alloc: Global, table: &RoleTable) -> Result<(Source, Source, Source), PlanFault>
-    ensures { Reads (λ read. AreBenefits table.now.names.now (map seen_of table.now.tables.now)
-        (view table.now.roles.now) read.0 read.1 read.2) result }
+fn read_benefits(alloc: Global, table: &RoleTable) -> Result<Benefits, PlanFault>
+    ensures { Reads (AreBenefits table.now.names.now (map seen_of table.now.tables.now)
+        (view table.now.roles.now)) result }
 {
-    let cover = table.read(alloc, "cover", RoleKind::Flag, 1)?;
-    let fee = table.read(alloc, "fee", RoleKind::Money, 2)?;
-    let deductible = table.read(alloc, "deductible", RoleKind::Money, 3)?;
-    Ok((cover, fee, deductible))
+    let cover = table.read(alloc, RoleKey::Cover)?;
+    let fee = table.read(alloc, RoleKey::Fee)?;
+    let deductible = table.read(alloc, RoleKey::Deductible)?;
+    Ok(Benefits {
+        cover,
+        fee,
+        deductible,
+    })
 }
 
-fn read_shares(alloc: Global, table: &RoleTable) -> Result<(Source, Source, Source), PlanFault>
-    ensures { Reads (λ read. AreShares table.now.names.now (map seen_of table.now.tables.now)
-        (view table.now.roles.now) read.0 read.1 read.2) result }
+fn read_shares(alloc: Global, table: &RoleTable) -> Result<Shares, PlanFault>
+    ensures { Reads (AreShares table.now.names.now (map seen_of table.now.tables.now)
+        (view table.now.roles.now)) result }
 {
-    let copay = table.read(alloc, "copay", RoleKind::Money, 4)?;
-    let rate = table.read(alloc, "rate", RoleKind::Rate, 5)?;
-    let oop_max = table.read(alloc, "oop_max", RoleKind::Money, 6)?;
-    Ok((copay, rate, oop_max))
+    let copay = table.read(alloc, RoleKey::Copay)?;
+    let rate = table.read(alloc, RoleKey::Rate)?;
+    let oop_max = table.read(alloc, RoleKey::OopMax)?;
+    Ok(Shares {
+        copay,
+        rate,
+        oop_max,
+    })
 }
 
 /// If the plan does not keep accumulators for families, the keys of the family's limits are not
@@ -129,8 +157,8 @@ fn read_limits(alloc: Global, table: &RoleTable) -> Result<FamilyRoles, PlanFaul
     ensures { Reads (AreLimits table.now.names.now (map seen_of table.now.tables.now)
         (view table.now.roles.now)) result }
 {
-    let deductible = table.read(alloc, "family_deductible", RoleKind::Money, 8)?;
-    let oop_max = table.read(alloc, "family_oop_max", RoleKind::Money, 9)?;
+    let deductible = table.read(alloc, RoleKey::FamilyDeductible)?;
+    let oop_max = table.read(alloc, RoleKey::FamilyOopMax)?;
     Ok(FamilyRoles {
         deductible,
         oop_max,
@@ -146,29 +174,25 @@ struct RoleTable<'a> {
 }
 
 impl RoleTable<'_> {
-    /// Reads the role at a key. A fault reports `column` as the number of the role.
-    fn read(
-        &self,
-        alloc: Global,
-        key: &str,
-        asked: RoleKind,
-        column: usize,
-    ) -> Result<Source, PlanFault>
-        ensures { Reads (IsRole self.now.names.now (map seen_of self.now.tables.now) asked key.now
+    fn read(&self, alloc: Global, role: RoleKey) -> Result<Source, PlanFault>
+        ensures { Reads (IsRole self.now.names.now (map seen_of self.now.tables.now) role
             (view self.now.roles.now)) result }
     {
-        let place = FaultLocation::TEXT.in_column(column);
-        match text_at(self.roles, key) {
-            Some(text) => read_source(alloc, text, asked, self.names, self.tables, place),
+        let place = FaultLocation::of_role(role);
+        match text_at(self.roles, role) {
+            Some(text) => {
+                let asked = RoleKind::of(role);
+                read_source(alloc, text, asked, self.names, self.tables, place)
+            }
             None => Err(place.fault(PlanCause::Role)),
         }
     }
 }
 
-fn text_at<'a>(entry: &'a Value, key: &str) -> Option<&'a str>
-    ensures { option_map (λ text. text.now) result ≡ string_at key.now (view entry.now) }
+fn text_at(roles: &Value, role: RoleKey) -> Option<&str>
+    ensures { option_map (λ text. text.now) result ≡ string_at (key_of role) (view roles.now) }
 {
-    match entry.get(key) {
+    match roles.get(role.key()) {
         None => None,
         Some(value) => value.as_str(),
     }
@@ -246,32 +270,23 @@ fn is_of_kind(found: Option<Kind>, kind: Kind) -> bool
 }
 
 /// Reads the name of the output that lists remarks, if the key is there.
-fn read_remarks(
-    alloc: Global,
-    roles: &Value,
-    tables: &[Table],
-    place: FaultLocation,
-) -> Result<Option<Name>, PlanFault>
-    ensures { Reads (Optionally (AreRemarks (map seen_of tables.now))
-        (get (codes "remarks") (view roles.now))) result }
+fn read_remarks(alloc: Global, table: &RoleTable) -> Result<Option<Name>, PlanFault>
+    ensures { Reads (Optionally (AreRemarks (map seen_of table.now.tables.now))
+        (get (key_of role_keys.Remarks) (view table.now.roles.now))) result }
 {
-    match roles.get("remarks") {
+    match table.roles.get(RoleKey::Remarks.key()) {
         None => Ok(None),
         Some(entry) => {
-            let name = read_remarks_name(alloc, entry, tables, place)?;
+            let name = read_remarks_name(alloc, entry, table.tables)?;
             Ok(Some(name))
         }
     }
 }
 
-fn read_remarks_name(
-    alloc: Global,
-    entry: &Value,
-    tables: &[Table],
-    place: FaultLocation,
-) -> Result<Name, PlanFault>
+fn read_remarks_name(alloc: Global, entry: &Value, tables: &[Table]) -> Result<Name, PlanFault>
     ensures { Reads (AreRemarks (map seen_of tables.now) (view entry.now)) result }
 {
+    let place = FaultLocation::of_role(RoleKey::Remarks);
     let Some(text) = entry.as_str() else {
         return Err(place.fault(PlanCause::Role));
     };
@@ -312,6 +327,22 @@ fn is_text(kind: Kind) -> bool
 }
 
 impl RoleKind {
+    fn of(role: RoleKey) -> RoleKind
+        ensures { result ≡ asked_by role }
+    {
+        match role {
+            RoleKey::Cover => RoleKind::Flag,
+            RoleKey::Fee => RoleKind::Money,
+            RoleKey::Deductible => RoleKind::Money,
+            RoleKey::Copay => RoleKind::Money,
+            RoleKey::Rate => RoleKind::Rate,
+            RoleKey::OopMax => RoleKind::Money,
+            RoleKey::Remarks => RoleKind::Texts,
+            RoleKey::FamilyDeductible => RoleKind::Money,
+            RoleKey::FamilyOopMax => RoleKind::Money,
+        }
+    }
+
     fn kind(self) -> Kind
         ensures { result ≡ asked_kind self }
     {
@@ -319,6 +350,7 @@ impl RoleKind {
             RoleKind::Flag => Kind::Flag,
             RoleKind::Money => Kind::Number,
             RoleKind::Rate => Kind::Number,
+            RoleKind::Texts => Kind::Text,
         }
     }
 

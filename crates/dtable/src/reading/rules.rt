@@ -14,7 +14,7 @@ use super::literals::read_literal_entry;
 use super::place::FaultLocation;
 use crate::hit_constraints::is_ranked;
 use crate::table::{Input, InputData, Output, Rule, Table};
-use faults::{PlanCause, PlanFault};
+use faults::{Ordinal, PlanCause, PlanFault};
 use feel_tests::{Cell, Sequence, Value as Literal, text_spells_at_most_one_value};
 use std::alloc::Global;
 use toml::Value;
@@ -33,7 +33,11 @@ pub fn read_rules(
         (view table.now)) result }
 {
     let entries = required_array(table, "rules", place)?;
-    check_count(entries, RULES_LIMIT, place.in_rule(RULES_LIMIT + 1))?;
+    check_count(
+        entries,
+        RULES_LIMIT,
+        place.in_rule(Ordinal::at(RULES_LIMIT)),
+    )?;
     let mut rules = Sequence::new(alloc);
     for (index, entry) in entries.iter().enumerate() {
         let rule = read_rule(
@@ -43,7 +47,7 @@ pub fn read_rules(
             tables,
             inputs,
             outputs,
-            place.in_rule(index + 1),
+            place.in_rule(Ordinal::at(index)),
         )?;
         rules.push(rule)?;
     }
@@ -88,7 +92,7 @@ fn read_when(
             names,
             tables,
             input.origin,
-            place.in_column(index + 1),
+            place.in_column(Ordinal::at(index)),
         )?;
         cells.push(cell)?;
     }
@@ -109,7 +113,7 @@ fn read_then(
     let entries = required_row(rule, "then", outputs.len(), place)?;
     let mut literals = Sequence::new(alloc);
     for (index, entry) in entries.iter().enumerate() {
-        let column = place.in_column(inputs.len() + index + 1);
+        let column = place.in_column(Ordinal::at(inputs.len() + index));
         let literal = read_then_entry(alloc, entry, &outputs[index], column)?;
         literals.push(literal)?;
     }

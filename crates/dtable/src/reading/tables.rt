@@ -15,7 +15,7 @@ use super::rules::read_rules;
 use crate::hit::Hit;
 use crate::hit_constraints::satisfies_constraints;
 use crate::table::{InputData, Table};
-use faults::{PlanCause, PlanFault};
+use faults::{Ordinal, PlanCause, PlanFault};
 use feel_tests::{Sequence, text_spells_at_most_one_cell, text_spells_at_most_one_value};
 use std::alloc::Global;
 use toml::Value;
@@ -42,7 +42,7 @@ fn read_table_entries(
     check_count(
         entries,
         TABLES_LIMIT,
-        FaultLocation::TEXT.in_table(TABLES_LIMIT + 1),
+        FaultLocation::TEXT.in_table(Ordinal::at(TABLES_LIMIT)),
     )?;
     // proof: a text denotes at most one value, so a refused text denotes none
     text_spells_at_most_one_value();
@@ -53,7 +53,7 @@ fn read_table_entries(
             entry,
             names,
             tables.as_slice(),
-            FaultLocation::TEXT.in_table(index + 1),
+            FaultLocation::TEXT.in_table(Ordinal::at(index)),
         )?;
         tables.push(table)?;
     }

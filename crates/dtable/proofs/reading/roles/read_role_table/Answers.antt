@@ -4,12 +4,12 @@ use Rattle.dtable.proofs.reading.roles.read_role_table.Goals as goal
 pub returns-in_err-benefits : goal.returns-in_err-benefits
 returns-in_err-benefits c =
     let p = err_from_is_err_and c.from_residual.result c.from_residual.ensures.1 in
-    rw (p.1, p.2) (λ memory r h. c.in_err-benefits.ensures memory (r.cover, r.fee, r.deductible) (record { cover = h.cover; fee = h.fee; deductible = h.deductible }))
+    rw (p.1, p.2) (λ memory r h. c.in_err-benefits.ensures memory (record { cover = r.cover; fee = r.fee; deductible = r.deductible }) (record { cover = h.cover; fee = h.fee; deductible = h.deductible }))
 
 pub returns-in_err-shares : goal.returns-in_err-shares
 returns-in_err-shares c =
     let p = err_from_is_err_and c.from_residual-in_err-shares.result c.from_residual-in_err-shares.ensures.1 in
-    rw (p.1, p.2) (λ memory r h. c.in_err-shares.ensures memory (r.copay, r.rate, r.oop_max) (record { copay = h.copay; rate = h.rate; oop_max = h.oop_max }))
+    rw (p.1, p.2) (λ memory r h. c.in_err-shares.ensures memory (record { copay = r.copay; rate = r.rate; oop_max = r.oop_max }) (record { copay = h.copay; rate = h.rate; oop_max = h.oop_max }))
 
 pub returns-in_err-remarks : goal.returns-in_err-remarks
 returns-in_err-remarks c =

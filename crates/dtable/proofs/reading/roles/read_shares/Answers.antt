@@ -4,14 +4,14 @@ use Rattle.dtable.proofs.reading.roles.read_shares.Goals as goal
 pub returns-in_err-copay : goal.returns-in_err-copay
 returns-in_err-copay c =
     let p = err_from_is_err_and c.from_residual.result c.from_residual.ensures.1 in
-    rw (p.1, p.2) (λ memory read h. c.in_err-copay.ensures memory read.0 h.copay)
+    rw (p.1, p.2) (λ memory read h. c.in_err-copay.ensures memory read.copay h.copay)
 
 pub returns-in_err-rate : goal.returns-in_err-rate
 returns-in_err-rate c =
     let p = err_from_is_err_and c.from_residual-in_err-rate.result c.from_residual-in_err-rate.ensures.1 in
-    rw (p.1, p.2) (λ memory read h. c.in_err-rate.ensures memory read.1 h.rate)
+    rw (p.1, p.2) (λ memory read h. c.in_err-rate.ensures memory read.rate h.rate)
 
 pub returns-in_err-oop_max : goal.returns-in_err-oop_max
 returns-in_err-oop_max c =
     let p = err_from_is_err_and c.from_residual-in_err-oop_max.result c.from_residual-in_err-oop_max.ensures.1 in
-    rw (p.1, p.2) (λ memory read h. c.in_err-oop_max.ensures memory read.2 h.oop_max)
+    rw (p.1, p.2) (λ memory read h. c.in_err-oop_max.ensures memory read.oop_max h.oop_max)
