@@ -97,7 +97,6 @@ lies_at (r ∷ rs) (suc place) v has = let more = lies_at rs place v has in reco
 -- the value that the column reads is allowed, and the mask has the rules whose cell holds for it
 pub record IsRead (given : List Slot) (earlier : List (List Answer)) (t : Table) (column : ℕ) (input : Input) (mask : List ℕ) : Type 0 where
   pub inside : is_outside given earlier input ≡ false
-  pub words : length mask ≡ 4
   pub has : (place : ℕ) → place < 256 → has_rule mask place ≡ (nat_lt place (length t.rules) && next_holds given earlier (rule_cells t place) column input)
 
 -- the mask of the region that contains the value that a column reads
@@ -106,9 +105,9 @@ pub one_read : (p : PlanParts) (given : List Slot) (earlier : List (List Answer)
 one_read p given earlier t column input kept v mask is_kept reads is =
     let rs = regions (column_of p t column input) in
     let read : value_read given earlier input.origin ≡ Some v = ap (value_read given earlier) (sym is_kept.origin) ∙ reads in
-    let of_kind : is_value (kind_read p input.origin) v ≡ true = subst (λ kind. is_value kind v ≡ true) is_kept.kind is.of_kind in
-    let within : has_at rs is.place v ≡ true = subst (λ xs. has_at xs is.place v ≡ true) is_kept.listed is.inside in
-    let all : AreMasks t column rs kept.masks = subst (λ xs. AreMasks t column xs kept.masks) is_kept.listed is_kept.masks in
+    let of_kind : is_value (kind_read p input.origin) v ≡ true = subst (λ kind. is_value kind v ≡ true) is_kept.partition.kind is.is.of_kind in
+    let within : has_at rs is.place v ≡ true = subst (λ xs. has_at xs is.place v ≡ true) is_kept.partition.listed is.is.inside in
+    let all : AreMasks t column rs kept.masks = subst (λ xs. AreMasks t column xs kept.masks) is_kept.partition.listed is_kept.masks in
     let there = lies_at rs is.place v within in
     let r_at : Among there.region rs = among_got rs is.place there.region there.at in
     let lits = column_literals t column input.values in
@@ -118,7 +117,6 @@ one_read p given earlier t column input kept v mask is_kept reads is =
     record {
       inside = ap (λ found. option_map_or (λ cell. not (holds_of found cell)) input.values false) read
           ∙ not_so (option_map_or (λ cell. not (holds_of (Some v) cell)) input.values false) (sym (inside_alike input.values v) ∙ allowed);
-      words = marks.words;
       has = λ place within.
           column_marks p t column input there.region v mask r_at so there.inside marks place within
           ∙ ap (λ found. nat_lt place (length t.rules) && option_map_or (λ cell. holds_of found cell) (slice_get (rule_cells t place) column) true) (sym read);
@@ -227,13 +225,6 @@ column_met t kept given earlier i column mask read new all below is is_read met 
     let found = input_at all.plan t kept i column all.columns below is in
     more_met given earlier t i found.0 mask read new found.1 met (one_read all.plan given earlier t i found.0 column is_read.value read found.2 is_read.read is_read.is) words has
 
--- the mask of a compiled column has four words
-pub column_words : (t : Table) (kept : List CompiledColumn) (given : List Slot) (earlier : List (List Answer)) (i : ℕ) (column : CompiledColumn) (read : List ℕ) → AreKept t kept → i < length kept → column ≡ get_or kept i column
-    → IsMaskRead given earlier column read → length read ≡ 4
-column_words t kept given earlier i column read all below is is_read =
-    let found = input_at all.plan t kept i column all.columns below is in
-    (one_read all.plan given earlier t i found.0 column is_read.value read found.2 is_read.read is_read.is).words
-
 -- after the last compiled column, the mask has the matching rules
 pub kept_met : (t : Table) (kept : List CompiledColumn) (given : List Slot) (earlier : List (List Answer)) (i : ℕ) (mask : List ℕ) → AreKept t kept → length kept ≤ i → AreMet given earlier t i mask → IsMatchingMask given earlier t mask
 kept_met t kept given earlier i mask all last met =
@@ -250,7 +241,7 @@ pub column_masks : (p : PlanParts) (number column : ℕ) (kept : List CompiledCo
 column_masks p number column kept found all place is t regions at there =
     let input = input_at p t kept (column - 1) found (all t at) (column_within p number column t kept (all t at) at place) is in
     let listed = column_regions p t (table_regions p t) (column - 1) input.0 regions refl input.1 there in
-    subst (λ rs. AreMasks t (column - 1) rs found.masks) (input.2.listed ∙ listed) input.2.masks
+    subst (λ rs. AreMasks t (column - 1) rs found.masks) (input.2.partition.listed ∙ listed) input.2.masks
 
 -- the value of a table whose matching rules are those of a mask
 pub value_by_mask : (given : List Slot) (earlier : List (List Answer)) (t : Table) (mask : List ℕ) (result : Result (List Answer) Fault) → IsMatchingMask given earlier t mask → length t.rules ≤ 256

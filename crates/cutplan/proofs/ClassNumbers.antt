@@ -60,12 +60,12 @@ one_name p places kept new i name below all here pushed =
     one_more (IsKeptName p) places kept new i place name below (get_or_default places i 0 place below) all here pushed
 
 -- the texts that a region of other texts of a name excludes are increasing
-pub name_others : (p : PlanParts) (place : ℕ) (name : CompiledName) → IsKeptName p place name → OthersRise name.regions.items
+pub name_others : (p : PlanParts) (place : ℕ) (name : CompiledName) → IsKeptName p place name → OthersRise name.partition.regions.items
 name_others p place name is names has =
-    let there = subst (λ rs. Among (Other names) rs) is.regions (among_contained name.regions.items (Other names) has) in
+    let there = subst (λ rs. Among (Other names) rs) is.partition.regions (among_contained name.partition.regions.items (Other names) has) in
     others_of (name_kind p place) (name_literals p.tables place) names there
 
-pub names_others : (p : PlanParts) (kept : List CompiledName) (i : ℕ) (name : CompiledName) → AreCompiledNames p kept → i < length kept → name ≡ get_or kept i name → OthersRise name.regions.items
+pub names_others : (p : PlanParts) (kept : List CompiledName) (i : ℕ) (name : CompiledName) → AreCompiledNames p kept → i < length kept → name ≡ get_or kept i name → OthersRise name.partition.regions.items
 names_others p kept i name all below is =
     let partner = partner_at (IsKeptName p) (names_read p) kept i name all below is in
     name_others p partner.one name partner.so
@@ -96,13 +96,13 @@ lies_in : (p : PlanParts) (given : List Slot) (n : ℕ) (name : CompiledName) (p
 lies_in p given n name place is at = record {
   value = at.value;
   is = subst (λ k. value_at given k ≡ Some at.value) is.at at.is;
-  of_kind = subst (λ kind. is_value kind at.value ≡ true) is.kind at.of_kind;
-  inside = subst (λ rs. has_at rs place at.value ≡ true) is.regions at.inside;
+  of_kind = subst (λ kind. is_value kind at.value ≡ true) is.partition.kind at.lies.of_kind;
+  inside = subst (λ rs. has_at rs place at.value ≡ true) is.partition.regions at.lies.inside;
 }
 
 -- the number, extended by one name
 pub more_names : (p : PlanParts) (given : List Slot) (kept : List CompiledName) (i input_class place next : ℕ) (name : CompiledName) → AreCompiledNames p kept → i < length kept → name ≡ get_or kept i name
-    → IsInputClassOf p given i input_class → IsPlaceIn name given place → next ≡ with_place input_class (length name.regions.items, place) → IsInputClassOf p given (i + 1) next
+    → IsInputClassOf p given i input_class → IsPlaceIn name given place → next ≡ with_place input_class (length name.partition.regions.items, place) → IsInputClassOf p given (i + 1) next
 more_names p given kept i input_class place next name all below is so_far at stepped =
     let names = names_read p in
     let partner = partner_at (IsKeptName p) names kept i name all below is in
@@ -113,7 +113,7 @@ more_names p given kept i input_class place next name all below is so_far at ste
     let front : take (i + 1) names ≡ take i names ++ n ∷ [] = take_more names i n within ∙ ap (λ x. take i names ++ x ∷ []) (partner.at n) in
     let counts = counts_of p (take i names) in
     let long : length counts ≡ length places = length-map (take i names) (λ place. length (name_regions p place)) ∙ all_long (LiesIn p given) (take i names) places so_far.lie in
-    let count : length name.regions.items ≡ length (name_regions p n) = ap length partner.so.regions in
+    let count : length name.partition.regions.items ≡ length (name_regions p n) = ap length partner.so.partition.regions in
     let split : counts_of p (take (i + 1) names) ≡ counts ++ length (name_regions p n) ∷ [] = ap (counts_of p) front ∙ map-append (λ place. length (name_regions p place)) (take i names) (n ∷ []) in
     record {
       places = places ++ place ∷ [];

@@ -13,8 +13,9 @@ use Rattle.dtable.specs.Plan.{PlanParts, IsPlan}
 use Rattle.cutplan.specs.declared.compiled_column.CompiledColumn.{CompiledColumn}
 use Rattle.cutplan.specs.declared.region.Region.{Region}
 use Rattle.cutplan.specs.CheckSteps.{holds_among, AreMasksBy}
-use Rattle.cutplan.specs.Masks.{Marks, AreMasks, AreTableMasks, IsColumnNumber}
-use Rattle.cutplan.specs.CompiledColumns.{AreCompiledColumns, IsCut, IsCompiledColumn}
+use Rattle.cutplan.specs.Masks.{Marks, IsColumnNumber}
+use Rattle.cutplan.specs.CompiledColumns.{regions_kept, AreColumnsOf, AreCompiledColumns, AreMasked, IsCut, IsCompiledColumn}
+use Rattle.cutplan.specs.Regions.{column_of, columns_from, regions, table_regions}
 
 all_push : {X Y : Type 0} (R : X → Y → Type 0) (xs : List X) (ys : List Y) (x : X) (y : Y) → AllZip R xs ys → R x y → AllZip R (xs ++ x ∷ []) (ys ++ y ∷ [])
 all_push R [] [] x y all r = (r, tt)
@@ -48,17 +49,6 @@ pub placed_column : {X : Type 0} (xs : List X) (i : ℕ) (x : X) → i < length 
 placed_column xs i x below is =
     let zero_more : 0 + i ≡ i = omega arith in
     sym (get_or-enumerate_from 0 xs i (at_number i x) below ∙ ap (λ n. at_number n (get_or xs i x)) zero_more ∙ ap (at_number i) (sym is))
-
--- the masks of the first columns of a table
-abbrev pub AreFirstMasks : Table → ℕ → List (List Region) → List (List (List ℕ)) → Type 0
-AreFirstMasks t i columns masks = AllZip (λ (c : ℕ × List Region) (kept : List (List ℕ)). AreMasks t c.0 c.1 kept) (take i (enumerate_from 0 columns)) masks
-
--- the masks, extended by one column
-pub more_columns : (t : Table) (columns : List (List Region)) (masks new : List (List (List ℕ))) (i : ℕ) (regions : List Region) (kept : List (List ℕ)) → i < length columns → regions ≡ get_or columns i regions
-    → AreFirstMasks t i columns masks → AreMasks t i regions kept → new ≡ masks ++ kept ∷ [] → AreFirstMasks t (i + 1) columns new
-more_columns t columns masks new i regions kept below is all here pushed =
-    one_more (λ (c : ℕ × List Region) (kept : List (List ℕ)). AreMasks t c.0 c.1 kept) (enumerate_from 0 columns) masks new i (at_number i regions) kept
-    (subst (λ n. i < n) (sym (length-enumerate_from 0 columns)) below) (placed_column columns i regions below is) all here pushed
 
 -- the compiled columns of the first inputs of a table
 abbrev pub AreFirstKept : PlanParts → Table → ℕ → List CompiledColumn → Type 0
@@ -173,8 +163,29 @@ column_within p number column t kept all at place =
     let last : column ≤ length t.inputs = subst (λ found. column ≤ option_map_or (λ x. length x.inputs) found 0) at place.1 in
     omega (arith, long, first, last)
 
--- the masks of all columns
-pub all_columns : (t : Table) (i : ℕ) (columns : List (List Region)) (masks : List (List (List ℕ))) → length columns ≤ i → AreFirstMasks t i columns masks → AreTableMasks t columns masks
-all_columns t i columns masks last all =
-    let long = length-enumerate_from 0 columns in
-    subst (λ cs. AllZip (λ (c : ℕ × List Region) (kept : List (List ℕ)). AreMasks t c.0 c.1 kept) cs masks) (take_all i (enumerate_from 0 columns) (omega (arith, long, last))) all
+-- compiled columns have the masks of their regions, which are the regions of the table
+record AreOfTable (p : PlanParts) (t : Table) (n : ℕ) (inputs : List Input) (kept : List CompiledColumn) : Type 0 where
+  masked : AreMasked t n kept
+  regions_are : regions_kept kept ≡ map regions (columns_from p t n inputs)
+
+of_table : (p : PlanParts) (t : Table) (n : ℕ) (inputs : List Input) (kept : List CompiledColumn) → AllZip (λ (input : ℕ × Input) (column : CompiledColumn). IsCompiledColumn p t input.0 input.1 column) (enumerate_from n inputs) kept
+    → AreOfTable p t n inputs kept
+of_table p t n [] [] all = record { masked = tt; regions_are = refl }
+of_table p t n [] (k ∷ ks) all = absurd all
+of_table p t n (i ∷ is) [] all = absurd all
+of_table p t n (i ∷ is) (k ∷ ks) all =
+    let more = of_table p t (n + 1) is ks all.1 in
+    record {
+      masked = (all.0.masks, more.masked);
+      regions_are = ap (λ rs. rs ∷ regions_kept ks) all.0.partition.listed ∙ ap (λ rest. regions (column_of p t n i) ∷ rest) more.regions_are;
+    }
+
+pub kept_masked : (p : PlanParts) (t : Table) (kept : List CompiledColumn) → AreCompiledColumns p t kept → AreMasked t 0 kept
+kept_masked p t kept all = (of_table p t 0 t.inputs kept all).masked
+
+pub kept_regions : (p : PlanParts) (t : Table) (kept : List CompiledColumn) → AreCompiledColumns p t kept → regions_kept kept ≡ table_regions p t
+kept_regions p t kept all = (of_table p t 0 t.inputs kept all).regions_are
+
+-- the compiled columns of the table of a number
+pub columns_of_number : (p : PlanParts) (kept : List (List CompiledColumn)) (number : ℕ) (columns : List CompiledColumn) → AllZip (AreCompiledColumns p) p.tables kept → columns ≡ get_or kept (number - 1) columns → AreColumnsOf p number columns
+columns_of_number p kept number columns all is t at = table_kept p kept (number - 1) columns t all is at

@@ -1,9 +1,11 @@
 -- The number of cells of columns.
 use Rattle.std.proofs.Common.{◌≡◌, ℕ, zero, suc, ◌+◌, ◌*◌, ◌≤◌, ◌<◌, inl, inr, List, [], ◌∷◌, ◌++◌, length, get_or, take, map, min, ap, sym, ◌∙◌, length-append, arith}
 use Rattle.std.specs.List.{flat_map}
-use Rattle.std.proofs.lemmas.List.{take_more, take_all, length-map}
+use Rattle.std.proofs.lemmas.List.{take_more, take_all, length-map, map-append}
 use Rattle.std.proofs.lemmas.Bool.{cases_lt}
+use Rattle.cutplan.specs.declared.compiled_column.CompiledColumn.{CompiledColumn}
 use Rattle.cutplan.specs.declared.region.Region.{Region}
+use Rattle.cutplan.specs.CompiledColumns.{regions_kept}
 use Rattle.cutplan.specs.Check.{cells}
 
 -- each region is put before each cell of the other columns
@@ -43,3 +45,17 @@ count_more columns i item count factor limit below present factor_is count_is =
 -- the capped number of all cells
 pub whole_count : (columns : List (List Region)) (i count limit : ℕ) → length columns ≤ i → count ≡ min (length (cells (take i columns))) limit → count ≡ min (length (cells columns)) limit
 whole_count columns i count limit end capped = capped ∙ ap (λ cs. min (length (cells cs)) limit) (take_all i columns end)
+
+-- the same for compiled columns
+pub count_kept : (columns : List CompiledColumn) (i : ℕ) (item : CompiledColumn) (count factor limit : ℕ) → i < length columns → item ≡ get_or columns i item → factor ≡ length item.partition.regions.items
+    → count ≡ min (length (cells (regions_kept (take i columns)))) limit → min (count * factor) limit ≡ min (length (cells (regions_kept (take (i + 1) columns)))) limit
+count_kept columns i item count factor limit below present factor_is count_is =
+    let front = regions_kept (take i columns) in
+    let last = item.partition.regions.items in
+    let split : regions_kept (take (i + 1) columns) ≡ front ++ last ∷ [] =
+    ap regions_kept (take_more columns i item below ∙ ap (λ c. take i columns ++ c ∷ []) (sym present)) ∙ map-append (λ (c : CompiledColumn). c.partition.regions.items) (take i columns) (item ∷ []) in
+    ap (λ k. min (k * factor) limit) count_is ∙ capped_product (length (cells front)) factor limit
+    ∙ ap (λ k. min k limit) (ap (λ k. length (cells front) * k) factor_is ∙ sym (length_push front last) ∙ sym (ap (λ cs. length (cells cs)) split))
+
+pub whole_kept : (columns : List CompiledColumn) (i count limit : ℕ) → length columns ≤ i → count ≡ min (length (cells (regions_kept (take i columns)))) limit → count ≡ min (length (cells (regions_kept columns))) limit
+whole_kept columns i count limit end capped = capped ∙ ap (λ cs. min (length (cells (regions_kept cs))) limit) (take_all i columns end)

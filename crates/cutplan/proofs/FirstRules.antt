@@ -1,5 +1,5 @@
 -- The mask of the first rules: words whose lowest bits are set.
-use Rattle.std.proofs.Common.{◌≡◌, ℕ, zero, suc, ◌-◌, ◌*◌, ◌/◌, ◌%◌, ◌^◌, ◌<◌, ◌≤◌, [], ◌∷◌, get_or, inl, inr, refl, ap, sym, subst, ◌∙◌, arith, ◌⊎◌}
+use Rattle.std.proofs.Common.{◌≡◌, ℕ, zero, suc, ◌-◌, ◌*◌, ◌/◌, ◌%◌, ◌^◌, ◌<◌, ◌≤◌, [], ◌∷◌, false, get_or, inl, inr, refl, ap, sym, subst, ◌∙◌, arith, ◌⊎◌}
 use Rattle.std.proofs.lemmas.Bool.{lt-ltb, le-ltb}
 use Rattle.std.proofs.lemmas.Nat.Bits.{bit_at-zero, bit_at_ones, bit_at_ones_above, ones_shr}
 use Rattle.std.specs.Prelude.{nat_lt, ◌==◌}
@@ -57,6 +57,16 @@ first_marked count w0 w1 w2 w3 a b c d = record {
       word_at count w0 w1 w2 w3 (place / 64) (count - 64 * (place / 64)) refl a b c d (omega (arith, within)) (place % 64) (omega arith)
       ∙ less_alike (place % 64) (count - 64 * (place / 64)) place count (λ less. omega (arith, less)) (λ more. omega (arith, more));
 }
+
+-- no bit of a word is set
+none_low : (count : ℕ) → count ≡ 0 → IsLow count 0
+none_low count none bit within = no_bits count bit none
+
+-- the mask without rules
+pub none_marked : Marks (λ place. false) (0 ∷ 0 ∷ 0 ∷ 0 ∷ [])
+none_marked =
+    let first = first_marked 0 0 0 0 0 (none_low 0 refl) (none_low (0 - 64) (omega arith)) (none_low (0 - 128) (omega arith)) (none_low (0 - 192) (omega arith)) in
+    record { words = refl; has = λ place within. first.has place within ∙ le-ltb place 0 (omega arith) }
 
 -- the mask of at most 64 rules
 pub first_word : (count w : ℕ) → count ≤ 64 → IsLow count w → Marks (λ place. nat_lt place count) (w ∷ 0 ∷ 0 ∷ 0 ∷ [])

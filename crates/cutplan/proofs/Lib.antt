@@ -12,7 +12,6 @@ pub mod ColumnWise
 pub mod Ranges
 pub mod OpenRegions
 pub mod Parting
-pub mod Columnar
 pub mod GapLists
 pub mod Holding
 pub mod Overlapping
@@ -36,6 +35,7 @@ pub mod Meeting
 pub mod Places
 pub mod Sorting
 pub mod RuleSubsets
+pub mod Ranking
 pub mod ClassValues
 pub mod Literals
 pub mod ClassNumbers

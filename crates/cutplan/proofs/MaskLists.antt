@@ -7,7 +7,7 @@ use Rattle.std.proofs.lemmas.Nat.Bits.{bit_at-zero, bit_at-trailing_zeros, bit_a
 use Rattle.std.specs.Prelude.{bit_and, ◌==◌}
 use Rattle.std.specs.Int.{bit_at, bit_not, trailing_zeros}
 use Rattle.std.specs.List.{range_with_len}
-use Rattle.cutplan.specs.Masks.{has_rule, rules_in}
+use Rattle.cutplan.specs.Masks.{has_rule, rules_in, HasOnlyFirst}
 use Rattle.cutplan.specs.Matching.{places_set}
 use Rattle.cutplan.proofs.MaskRules.{filter_within}
 
@@ -121,7 +121,7 @@ more_rules mask found new words all next count is =
     ∙ ap (filter (has_rule mask)) (sym (range_parts 0 before width)) ∙ ap (λ n. filter (has_rule mask) (range_with_len 0 n)) parts
 
 -- the rules of all four words
-pub all_rules : (mask found : List ℕ) (words count : ℕ) → words ≡ 4 → count ≤ 256 → ((place : ℕ) → count ≤ place → place < 256 → has_rule mask place ≡ false) → AreFirstRules mask words found → found ≡ rules_in count mask
+pub all_rules : (mask found : List ℕ) (words count : ℕ) → words ≡ 4 → count ≤ 256 → HasOnlyFirst count mask → AreFirstRules mask words found → found ≡ rules_in count mask
 all_rules mask found words count four few none all =
     let total : ℕ = 64 * words in
     let more : count ≤ total = omega (arith, four, few) in

@@ -1,17 +1,20 @@
 -- The rules in the intersection of masks, column by column.
-use Rattle.std.proofs.Common.{◌≡◌, ℕ, zero, suc, ◌+◌, ◌*◌, ◌/◌, ◌%◌, ◌^◌, ◌<◌, ◌≤◌, ◌==◌, ◌&&◌, inl, inr, Bool, true, false, cond, List, [], ◌∷◌, length, get_or, filter, Some, refl, ap, sym, ◌∙◌, subst, arith, w64}
+use Rattle.std.proofs.Common.{◌≡◌, ℕ, zero, suc, ◌+◌, ◌*◌, ◌/◌, ◌%◌, ◌^◌, ◌<◌, ◌≤◌, ◌==◌, ◌&&◌, inl, inr, Bool, true, false, cond, List, [], ◌∷◌, length, get_or, filter, refl, ap, sym, ◌∙◌, subst, arith, w64}
 use Rattle.std.specs.Prelude.{nat_lt}
-use Rattle.std.specs.List.{AllZip, enumerate_from, range_with_len, slice_get}
+use Rattle.std.specs.List.{range_with_len}
 use Rattle.std.specs.Int.{bit_at, trailing_zeros}
 use Rattle.std.proofs.lemmas.Bool.{both_ways, cases_eq, cases_lt, lt-ltb, le-ltb, eq-eqb, ne_eqb}
-use Rattle.std.proofs.lemmas.Option.{none-some, same_Some}
+use Rattle.std.proofs.lemmas.List.{length-map}
 use Rattle.std.proofs.lemmas.Nat.Bits.{bit_at-zero, bit_at-trailing_zeros}
 use Rattle.dtable.specs.declared.table.Table.{Table}
+use Rattle.cutplan.specs.declared.compiled_column.CompiledColumn.{CompiledColumn}
 use Rattle.cutplan.specs.declared.region.Region.{Region}
+use Rattle.cutplan.specs.CompiledColumns.{regions_kept}
 use Rattle.cutplan.specs.Check.{holds_at}
-use Rattle.cutplan.specs.Masks.{has_rule, rules_in, is_marked, AreMasks, AreTableMasks, Marks}
-use Rattle.cutplan.specs.CheckSteps.{alive_in, AreRules, HasMasksFrom}
+use Rattle.cutplan.specs.Masks.{has_rule, rules_in, is_marked, AreMasks, HasOnlyFirst, Marks}
+use Rattle.cutplan.specs.CheckSteps.{alive_in}
 use Rattle.cutplan.proofs.Alike.{Among}
+use Rattle.cutplan.proofs.Compiling.{all_long}
 use Rattle.cutplan.proofs.MaskLists.{filter_alike}
 use Rattle.cutplan.proofs.MaskRules.{filter_none}
 use Rattle.cutplan.proofs.Overlapping.{among_kept, among_range}
@@ -43,15 +46,12 @@ alive_are t column region mask other met few marks has =
     ∙ ap (λ b. has_rule mask k && b) (marks.has k (omega (arith, few, high)) ∙ ap (λ b. b && holds_at t k column region) (lt-ltb k (length t.rules) (omega (arith, high)))))
     ∙ filter_both (has_rule mask) (λ k. holds_at t k column region) (range_with_len 0 (length t.rules))
 
-pub alive_rules : (count : ℕ) (mask other met : List ℕ) → AreRules count mask → length met ≡ 4 → IsMet mask other met → AreRules count met
-alive_rules count mask other met rules words has = record {
-  words = words;
-  within = λ place following low. has place low ∙ ap (λ b. b && has_rule other place) (rules.within place following low);
-}
+pub alive_rules : (count : ℕ) (mask other met : List ℕ) → HasOnlyFirst count mask → IsMet mask other met → HasOnlyFirst count met
+alive_rules count mask other met rules has place following low = has place low ∙ ap (λ b. b && has_rule other place) (rules place following low)
 
 -- the mask of the first rules
-pub first_rules : (count : ℕ) (mask : List ℕ) → Marks (λ place. nat_lt place count) mask → AreRules count mask
-first_rules count mask marks = record { words = marks.words; within = λ place following low. marks.has place low ∙ le-ltb place count following }
+pub first_rules : (count : ℕ) (mask : List ℕ) → Marks (λ place. nat_lt place count) mask → HasOnlyFirst count mask
+first_rules count mask marks place following low = marks.has place low ∙ le-ltb place count following
 
 pub first_are : (count : ℕ) (mask : List ℕ) → count ≤ 256 → Marks (λ place. nat_lt place count) mask → rules_in count mask ≡ range_with_len 0 count
 first_are count mask few marks =
@@ -68,7 +68,7 @@ among_long x [] at = absurd at
 among_long x (y ∷ ys) at = ne_eqb (suc (length ys)) 0 (λ e. omega (arith, e))
 
 -- a mask has a rule if one of its words is not zero
-some_from : (count : ℕ) (mask : List ℕ) (word : ℕ) → AreRules count mask → word < 4 → get_or mask word 0 < 2 ^ 64 → (get_or mask word 0 ≡ 0 → ⊥) → (length (rules_in count mask) == 0) ≡ false
+some_from : (count : ℕ) (mask : List ℕ) (word : ℕ) → HasOnlyFirst count mask → word < 4 → get_or mask word 0 < 2 ^ 64 → (get_or mask word 0 ≡ 0 → ⊥) → (length (rules_in count mask) == 0) ≡ false
 some_from count mask word rules low small some =
     let bits : ℕ = get_or mask word 0 in
     let bit = trailing_zeros w64 bits in
@@ -80,11 +80,11 @@ some_from count mask word rules low small some =
     let has : has_rule mask place ≡ true = ap (λ i. bit_at (get_or mask i 0) (place % 64) == 1) at ∙ ap (λ i. bit_at bits i == 1) rest ∙ ap (λ x. x == 1) lowest.1 in
     elim (cases_lt place count) [
       | inl less ↦ among_long place (rules_in count mask) (among_kept (has_rule mask) place (range_with_len 0 count) (among_range 0 count place (omega arith) (omega (arith, less))) has)
-      | inr most ↦ absurd (both_ways (has_rule mask place) (rules.within place most (omega (arith, low, within))) has)
+      | inr most ↦ absurd (both_ways (has_rule mask place) (rules place most (omega (arith, low, within))) has)
     ]
 
 -- whether a mask has no rule
-pub none_is : (count : ℕ) (mask : List ℕ) → count ≤ 256 → AreRules count mask → ((word : ℕ) → get_or mask word 0 < 2 ^ 64)
+pub none_is : (count : ℕ) (mask : List ℕ) → count ≤ 256 → HasOnlyFirst count mask → ((word : ℕ) → get_or mask word 0 < 2 ^ 64)
     → (((get_or mask 0 0 == 0 && get_or mask 1 0 == 0) && get_or mask 2 0 == 0) && get_or mask 3 0 == 0) ≡ (length (rules_in count mask) == 0)
 none_is count mask few rules small =
     let a : ℕ = get_or mask 0 0 in
@@ -111,51 +111,6 @@ none_is count mask few rules small =
       zeros a b c d (suc (suc (suc zero))) low = d
       zeros a b c d (suc (suc (suc (suc n)))) low = absurd (omega (arith, low))
 
--- the masks of columns by index
-numbered_masks : (t : Table) (n : ℕ) (columns : List (List Region)) (masks : List (List (List ℕ))) → AllZip (λ (c : ℕ × List Region) (kept : List (List ℕ)). AreMasks t c.0 c.1 kept) (enumerate_from n columns) masks
-    → (i : ℕ) (regions : List Region) → slice_get columns i ≡ Some regions → (kept : List (List ℕ)) × (slice_get masks i ≡ Some kept) × AreMasks t (n + i) regions kept
-numbered_masks t n [] masks all i regions at = absurd (none-some regions at)
-numbered_masks t n (c ∷ cs) [] all i regions at = absurd all
-numbered_masks t n (c ∷ cs) (m ∷ ms) all zero regions at =
-    let here : n ≡ n + 0 = omega arith in
-    (m, refl, subst (λ k. AreMasks t k regions m) here (subst (λ rs. AreMasks t n rs m) (same_Some c regions at) all.0))
-numbered_masks t n (c ∷ cs) (m ∷ ms) all (suc i) regions at =
-    let more = numbered_masks t (n + 1) cs ms all.1 i regions at in
-    let there : (n + 1) + i ≡ n + suc i = omega arith in
-    (more.0, more.1, subst (λ k. AreMasks t k regions more.0) there more.2)
-
-pub table_masks : (t : Table) (columns : List (List Region)) (masks : List (List (List ℕ))) → AreTableMasks t columns masks → HasMasksFrom t 0 columns masks
-table_masks t columns masks all i regions at =
-    let found = numbered_masks t 0 columns masks all i regions at in
-    let here : i ≡ 0 + i = omega arith in
-    (found.0, ap (slice_get masks) (sym here) ∙ found.1, found.2)
-
-got_at : {X : Type 0} (xs : List X) (n : ℕ) (x d : X) → slice_get xs n ≡ Some x → (n < length xs) × (get_or xs n d ≡ x)
-got_at [] n x d at = absurd (none-some x at)
-got_at (y ∷ ys) zero x d at = (omega arith, same_Some y x at)
-got_at (y ∷ ys) (suc n) x d at = let more = got_at ys n x d at in (omega (arith, more.0), more.1)
-
--- the masks of the first column
-pub masks_there : (t : Table) (place : ℕ) (columns : List (List Region)) (masks : List (List (List ℕ))) (regions : List Region) (more : List (List Region)) → columns ≡ regions ∷ more → HasMasksFrom t place columns masks → place < length masks
-masks_there t place columns masks regions more is has =
-    let found = has 0 regions (ap (λ cs. slice_get cs 0) is) in
-    let within = (got_at masks (place + 0) found.0 found.0 found.1).0 in
-    omega (arith, within)
-
-pub masks_here : (t : Table) (place : ℕ) (columns : List (List Region)) (masks : List (List (List ℕ))) (regions : List Region) (more : List (List Region)) (kept : List (List ℕ)) → columns ≡ regions ∷ more → HasMasksFrom t place columns masks
-    → kept ≡ get_or masks place kept → AreMasks t place regions kept
-masks_here t place columns masks regions more kept is has at =
-    let found = has 0 regions (ap (λ cs. slice_get cs 0) is) in
-    let here : place + 0 ≡ place = omega arith in
-    subst (λ k. AreMasks t k regions kept) here (subst (λ m. AreMasks t (place + 0) regions m) (sym (got_at masks (place + 0) found.0 kept found.1).1 ∙ ap (λ k. get_or masks k kept) here ∙ sym at) found.2)
-
--- the masks of the other columns
-pub masks_later : (t : Table) (place : ℕ) (columns : List (List Region)) (masks : List (List (List ℕ))) (regions : List Region) (more : List (List Region)) → columns ≡ regions ∷ more → HasMasksFrom t place columns masks → HasMasksFrom t (place + 1) more masks
-masks_later t place columns masks regions more is has i rs at =
-    let found = has (suc i) rs (ap (λ cs. slice_get cs (suc i)) is ∙ at) in
-    let there : place + suc i ≡ (place + 1) + i = omega arith in
-    (found.0, ap (slice_get masks) (sym there) ∙ found.1, subst (λ k. AreMasks t k rs found.0) there found.2)
-
 -- the mask of a region
 pub mask_there : (t : Table) (column : ℕ) (regions : List Region) (kept : List (List ℕ)) (i : ℕ) → AreMasks t column regions kept → i < length regions → i < length kept
 mask_there t column [] kept i all below = absurd (omega (arith, below))
@@ -169,3 +124,11 @@ mask_here t column [] kept i region d all below is = absurd (omega (arith, below
 mask_here t column (r ∷ rs) [] i region d all below is = absurd all
 mask_here t column (r ∷ rs) (m ∷ ms) zero region d all below is = subst (λ x. Marks (is_marked t column x) m) (sym is) all.0
 mask_here t column (r ∷ rs) (m ∷ ms) (suc i) region d all below is = mask_here t column rs ms i region d all.1 (omega (arith, below)) is
+
+-- there is a mask for each region
+pub masks_long : (t : Table) (column : ℕ) (regions : List Region) (kept : List (List ℕ)) → AreMasks t column regions kept → length regions ≡ length kept
+masks_long t column regions kept all = all_long (λ region mask. Marks (is_marked t column region) mask) regions kept all
+
+-- no columns have no regions
+pub no_columns : (columns : List CompiledColumn) → length columns ≡ 0 → length (regions_kept columns) ≡ 0
+no_columns columns none = length-map columns (λ (c : CompiledColumn). c.partition.regions.items) ∙ none

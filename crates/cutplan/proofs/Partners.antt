@@ -1,17 +1,20 @@
 -- The rules that share a region of every column, by masks.
-use Rattle.std.proofs.Common.{◌≡◌, ℕ, zero, suc, ◌+◌, ◌-◌, ◌/◌, ◌%◌, ◌<◌, ◌≤◌, ◌&&◌, ◌||◌, Bool, true, false, cond, List, [], ◌∷◌, ◌++◌, length, get_or, map, filter, Some, refl, ap, sym, ◌∙◌, arith}
+use Rattle.std.proofs.Common.{◌≡◌, ℕ, zero, suc, ◌+◌, ◌-◌, ◌/◌, ◌%◌, ◌<◌, ◌≤◌, ◌&&◌, ◌||◌, Bool, true, false, cond, List, [], ◌∷◌, ◌++◌, length, get_or, take, map, filter, Some, refl, ap, sym, ◌∙◌, arith}
 use Rattle.std.specs.Prelude.{bit_or, max, nat_lt, ◌==◌}
 use Rattle.std.specs.Int.{bit_at}
-use Rattle.std.specs.List.{AllZip, flat_map, list_all, range_with_len, enumerate_from, slice_get}
-use Rattle.std.proofs.lemmas.Bool.{lt-ltb, eq-eqb}
+use Rattle.std.specs.List.{flat_map, list_all, range_with_len, enumerate_from, slice_get}
+use Rattle.std.proofs.lemmas.Bool.{lt-ltb}
+use Rattle.std.proofs.lemmas.List.{take_more}
 use Rattle.std.proofs.lemmas.List.Elements.{filter-append}
 use Rattle.std.proofs.lemmas.Option.{same_Some}
 use Rattle.std.proofs.lemmas.Nat.Bits.{bit_at_or, bit_at-lt}
 use Rattle.dtable.specs.declared.table.Table.{Table}
 use Rattle.cutplan.specs.declared.region.Region.{Region}
 use Rattle.cutplan.specs.Check.{holds_at, meet, meet_in, pairs, pairs_with}
-use Rattle.cutplan.specs.Masks.{has_rule, Marks, AreMasks, AreTableMasks}
-use Rattle.cutplan.specs.CheckSteps.{are_whole, share, share_all}
+use Rattle.cutplan.specs.declared.compiled_column.CompiledColumn.{CompiledColumn}
+use Rattle.cutplan.specs.CompiledColumns.{masks_kept, regions_kept, AreMasked}
+use Rattle.cutplan.specs.Masks.{has_rule, Marks, AreMasks}
+use Rattle.cutplan.specs.CheckSteps.{share, share_all}
 use Rattle.cutplan.proofs.MaskBits.{four}
 use Rattle.cutplan.proofs.Pairing.{pairs_more, pair_more}
 
@@ -44,6 +47,10 @@ or_false false = refl
 and_true : (b : Bool) → (b && true) ≡ b
 and_true true = refl
 and_true false = refl
+
+and_all : (a b c : Bool) → ((a && b) && c) ≡ (a && (b && c))
+and_all true b c = refl
+and_all false b c = refl
 
 -- without columns, every rule is shared
 pub share_none : (rule : ℕ) (mask : List ℕ) → Marks (λ place. nat_lt place 256) mask → Marks (share_all [] rule) mask
@@ -98,14 +105,12 @@ shared_is t first second column (r ∷ rs) (m ∷ ms) few one other all =
     ap (λ x. (x && has_rule m second) || share ms first second) a ∙ ap (λ y. (holds_at t first column r && y) || share ms first second) b
     ∙ ap (λ rest. (holds_at t first column r && holds_at t second column r) || rest) (shared_is t first second column rs ms few one other all.1)
 
-all_shared : (t : Table) (first second : ℕ) (columns : List (ℕ × List Region)) (masks : List (List (List ℕ))) → length t.rules ≤ 256 → first < length t.rules → second < length t.rules
-    → AllZip (λ (c : ℕ × List Region) (kept : List (List ℕ)). AreMasks t c.0 c.1 kept) columns masks → share_all masks first second ≡ list_all (λ (c : ℕ × List Region). meet_in t first second c.0 c.1) columns
-all_shared t first second [] [] few one other all = refl
-all_shared t first second [] (m ∷ ms) few one other all = absurd all
-all_shared t first second (c ∷ cs) [] few one other all = absurd all
-all_shared t first second (c ∷ cs) (m ∷ ms) few one other all =
-    ap (λ b. b && share_all ms first second) (shared_is t first second c.0 c.1 m few one other all.0)
-    ∙ ap (λ b. meet_in t first second c.0 c.1 && b) (all_shared t first second cs ms few one other all.1)
+all_shared : (t : Table) (first second n : ℕ) (kept : List CompiledColumn) → length t.rules ≤ 256 → first < length t.rules → second < length t.rules → AreMasked t n kept
+    → share_all (masks_kept kept) first second ≡ list_all (λ (c : ℕ × List Region). meet_in t first second c.0 c.1) (enumerate_from n (regions_kept kept))
+all_shared t first second n [] few one other all = refl
+all_shared t first second n (k ∷ ks) few one other all =
+    ap (λ b. b && share_all (masks_kept ks) first second) (shared_is t first second n k.partition.regions.items k.masks few one other all.0)
+    ∙ ap (λ b. meet_in t first second n k.partition.regions.items && b) (all_shared t first second (n + 1) ks few one other all.1)
 
 -- two tests that agree on all pairs of rules filter them alike
 each_kept : (p q : ℕ × ℕ → Bool) (n a k : ℕ) → 1 ≤ a → ((first second : ℕ) → 1 ≤ first → first < second → second ≤ n → p (first, second) ≡ q (first, second)) → a + k ≤ n + 1
@@ -119,24 +124,29 @@ each_kept p q n a (suc k) low agree high =
     ∙ sym (filter-append q (pairs_with n a) rest)
 
 -- the pairs that have masks of all columns in common are those that meet
-pub shared_meet : (t : Table) (columns : List (List Region)) (masks : List (List (List ℕ))) → length t.rules ≤ 256 → AreTableMasks t columns masks
-    → filter (λ (pair : ℕ × ℕ). share_all masks (pair.0 - 1) (pair.1 - 1)) (pairs (length t.rules)) ≡ filter (λ (pair : ℕ × ℕ). meet columns t (pair.0 - 1) (pair.1 - 1)) (pairs (length t.rules))
-shared_meet t columns masks few all =
-    each_kept (λ (pair : ℕ × ℕ). share_all masks (pair.0 - 1) (pair.1 - 1)) (λ (pair : ℕ × ℕ). meet columns t (pair.0 - 1) (pair.1 - 1)) (length t.rules) 1 (length t.rules) (omega arith)
-    (λ first second low less high. all_shared t (first - 1) (second - 1) (enumerate_from 0 columns) masks few (omega (arith, low, less, high)) (omega (arith, low, less, high)) all) (omega arith)
+pub shared_meet : (t : Table) (kept : List CompiledColumn) → length t.rules ≤ 256 → AreMasked t 0 kept
+    → filter (λ (pair : ℕ × ℕ). share_all (masks_kept kept) (pair.0 - 1) (pair.1 - 1)) (pairs (length t.rules)) ≡ filter (λ (pair : ℕ × ℕ). meet (regions_kept kept) t (pair.0 - 1) (pair.1 - 1)) (pairs (length t.rules))
+shared_meet t kept few all =
+    each_kept (λ (pair : ℕ × ℕ). share_all (masks_kept kept) (pair.0 - 1) (pair.1 - 1)) (λ (pair : ℕ × ℕ). meet (regions_kept kept) t (pair.0 - 1) (pair.1 - 1)) (length t.rules) 1 (length t.rules) (omega arith)
+    (λ first second low less high. all_shared t (first - 1) (second - 1) 0 kept few (omega (arith, low, less, high)) (omega (arith, low, less, high)) all) (omega arith)
 
--- the masks have four words
-whole_masks : (t : Table) (column : ℕ) (regions : List Region) (masks : List (List ℕ)) → AreMasks t column regions masks → are_whole masks ≡ true
-whole_masks t column [] [] all = refl
-whole_masks t column [] (m ∷ ms) all = absurd all
-whole_masks t column (r ∷ rs) [] all = absurd all
-whole_masks t column (r ∷ rs) (m ∷ ms) all = ap (λ b. b && are_whole ms) (eq-eqb (length m) 4 all.0.words) ∙ whole_masks t column rs ms all.1
+-- the rules that share masks of the first columns, extended by one column
+share_push : (kept : List CompiledColumn) (last : CompiledColumn) (first second : ℕ) → share_all (masks_kept (kept ++ last ∷ [])) first second ≡ (share_all (masks_kept kept) first second && share last.masks first second)
+share_push [] last first second = and_true (share last.masks first second)
+share_push (k ∷ ks) last first second =
+    ap (λ b. share k.masks first second && b) (share_push ks last first second) ∙ sym (and_all (share k.masks first second) (share_all (masks_kept ks) first second) (share last.masks first second))
 
-pub all_whole : (t : Table) (columns : List (ℕ × List Region)) (masks : List (List (List ℕ))) → AllZip (λ (c : ℕ × List Region) (kept : List (List ℕ)). AreMasks t c.0 c.1 kept) columns masks → list_all are_whole masks ≡ true
-all_whole t [] [] all = refl
-all_whole t [] (m ∷ ms) all = absurd all
-all_whole t (c ∷ cs) [] all = absurd all
-all_whole t (c ∷ cs) (m ∷ ms) all = ap (λ b. b && list_all are_whole ms) (whole_masks t c.0 c.1 m all.0) ∙ all_whole t cs ms all.1
+pub share_more : (kept : List CompiledColumn) (i rule : ℕ) (column : CompiledColumn) (mask shared new : List ℕ) → i < length kept → column ≡ get_or kept i column
+    → Marks (share_all (masks_kept (take i kept)) rule) mask → Marks (share column.masks rule) shared → length new ≡ 4
+    → ((place : ℕ) → place < 256 → has_rule new place ≡ (has_rule mask place && has_rule shared place)) → Marks (share_all (masks_kept (take (i + 1) kept)) rule) new
+share_more kept i rule column mask shared new below is marks here words has =
+    let front : take (i + 1) kept ≡ take i kept ++ column ∷ [] = take_more kept i column below ∙ ap (λ c. take i kept ++ c ∷ []) (sym is) in
+    record {
+      words = words;
+      has = λ place within.
+          has place within ∙ ap (λ b. b && has_rule shared place) (marks.has place within) ∙ ap (λ b. share_all (masks_kept (take i kept)) rule place && b) (here.has place within)
+          ∙ sym (ap (λ cs. share_all (masks_kept cs) rule place) front ∙ share_push (take i kept) column rule place);
+    }
 
 -- the element at an index, by either lookup
 got : {X : Type 0} (xs : List X) (i : ℕ) (x : X) → slice_get xs i ≡ Some x → get_or xs i x ≡ x

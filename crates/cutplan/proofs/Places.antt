@@ -1,13 +1,15 @@
 -- The indices of the cells that pass a test, region by region.
-use Rattle.std.proofs.Common.{◌≡◌, ℕ, zero, suc, ◌+◌, ◌≤◌, ◌<◌, Bool, true, false, cond, eqb, List, [], ◌∷◌, ◌++◌, length, get_or, take, drop, map, filter, refl, ap, sym, ◌∙◌, length-append, take-append-drop, arith}
-use Rattle.std.specs.List.{flat_map, enumerate_from, range_with_len}
+use Rattle.std.proofs.Common.{◌≡◌, ℕ, zero, suc, ◌+◌, ◌-◌, ◌≤◌, ◌<◌, Bool, true, false, cond, eqb, List, [], ◌∷◌, ◌++◌, length, get_or, take, drop, map, filter, Option, Some, None, refl, ap, sym, ◌∙◌, append_assoc, length-append, take-append-drop, arith}
+use Rattle.std.specs.List.{flat_map, enumerate_from, range_with_len, slice_get}
+use Rattle.std.specs.Option.{option_map_or}
 use Rattle.std.proofs.lemmas.List.{length-map}
 use Rattle.std.proofs.lemmas.List.Concat.{flat_map-append}
 use Rattle.dtable.specs.declared.table.Table.{Table}
 use Rattle.cutplan.specs.declared.region.Region.{Region}
-use Rattle.cutplan.specs.Check.{cells}
+use Rattle.cutplan.specs.Check.{cells, gaps}
 use Rattle.cutplan.specs.CheckSteps.{alive_in, uncovered}
-use Rattle.cutplan.specs.Places.{is_gap, places}
+use Rattle.cutplan.specs.Places.{is_gap, places, PlacesAreGaps}
+use Rattle.cutplan.specs.Regions.{table_regions}
 use Rattle.cutplan.proofs.Covering.{gap_is, uncovered_end, uncovered_step}
 use Rattle.cutplan.proofs.Compiling.{at_number}
 use Rattle.cutplan.proofs.Steps.{flat_more}
@@ -103,3 +105,30 @@ places-alike p q agree k (x ∷ xs) =
 -- column on
 pub gap_places_are : (t : Table) (columns : List (List Region)) → places (uncovered t 0 (range_with_len 0 (length t.rules))) 0 (cells columns) ≡ places (is_gap t) 0 (cells columns)
 gap_places_are t columns = places-alike (uncovered t 0 (range_with_len 0 (length t.rules))) (is_gap t) (λ cell. gap_is t cell) 0 (cells columns)
+
+at_length : {X : Type 0} (front : List X) (x : X) (xs : List X) → slice_get (front ++ x ∷ xs) (length front) ≡ Some x
+at_length [] x xs = refl
+at_length (y ∷ ys) x xs = at_length ys x xs
+
+-- the items at the indices that pass a test are those that pass it
+items_at : {X : Type 0} (test : X → Bool) (front xs : List X) → map (slice_get (front ++ xs)) (places test (length front) xs) ≡ map (λ x. Some x) (filter test xs)
+items_at test front [] = refl
+items_at {X} test front (x ∷ xs) =
+    let k : ℕ = length front in
+    let all = front ++ x ∷ xs in
+    let next : length (front ++ x ∷ []) ≡ k + 1 = length-append front (x ∷ []) in
+    let rest : map (slice_get all) (places test (k + 1) xs) ≡ map (λ y. Some y) (filter test xs) =
+    ap (λ n. map (slice_get all) (places test n xs)) (sym next) ∙ ap (λ ys. map (slice_get ys) (places test (length (front ++ x ∷ [])) xs)) (sym (append_assoc front (x ∷ []) xs)) ∙ items_at test (front ++ x ∷ []) xs in
+    ap (map (slice_get all)) (places-cons test k x xs)
+    ∙ (elim (test x) as (λ b. map (slice_get all) (cond b (k ∷ places test (k + 1) xs) (places test (k + 1) xs)) ≡ map (λ (y : X). Some y) (cond b (x ∷ filter test xs) (filter test xs))) [
+      | true ↦ ap (λ found. found ∷ map (slice_get all) (places test (k + 1) xs)) (at_length front x xs) ∙ ap (λ found. Some x ∷ found) rest
+      | false ↦ rest
+    ])
+
+pub places_are_gaps : PlacesAreGaps
+places_are_gaps p number = by_table (slice_get p.tables (number - 1)) where
+  by_table : (found : Option Table)
+      → map (slice_get (option_map_or (λ t. cells (table_regions p t)) found [])) (places (λ cell. option_map_or (λ t. is_gap t cell) found true) 0 (option_map_or (λ t. cells (table_regions p t)) found []))
+      ≡ map (λ cell. Some cell) (option_map_or (gaps p) found [])
+  by_table None = refl
+  by_table (Some t) = items_at (is_gap t) [] (cells (table_regions p t))

@@ -1,11 +1,11 @@
 -- The number of rules in a mask, word by word.
-use Rattle.std.proofs.Common.{◌≡◌, ℕ, ◌+◌, ◌-◌, ◌*◌, ◌^◌, ◌<◌, ◌≤◌, ◌%◌, false, List, [], ◌∷◌, ◌++◌, get_or, filter, refl, ap, sym, subst, ◌∙◌, append-nil, arith, w64}
+use Rattle.std.proofs.Common.{◌≡◌, ℕ, ◌+◌, ◌-◌, ◌*◌, ◌^◌, ◌<◌, ◌≤◌, ◌%◌, List, [], ◌∷◌, ◌++◌, get_or, filter, refl, ap, sym, subst, ◌∙◌, append-nil, arith, w64}
 use Rattle.std.specs.Prelude.{bit_and}
 use Rattle.std.specs.Int.{bit_not, trailing_zeros}
 use Rattle.std.specs.List.{range_with_len}
 use Rattle.cutplan.specs.declared.rule_count.RuleCount.{RuleCount}
 use Rattle.cutplan.specs.declared.rule_count.RuleCount.TheVariants as few
-use Rattle.cutplan.specs.Masks.{has_rule, rules_in}
+use Rattle.cutplan.specs.Masks.{has_rule, rules_in, HasOnlyFirst}
 use Rattle.cutplan.specs.Matching.{IsRuleCount, places_set}
 use Rattle.cutplan.proofs.MaskLists.{all_rules, lowest_set, more_rules, none_set}
 
@@ -29,7 +29,7 @@ few_more mask found next words all step count is =
     subst (λ xs. IsRuleCount next xs) are reported
 
 -- the count for all four words
-pub few_in_all : (mask : List ℕ) (found : RuleCount) (words count : ℕ) → words ≡ 4 → count ≤ 256 → ((place : ℕ) → count ≤ place → place < 256 → has_rule mask place ≡ false) → AreFirstFew mask words found
+pub few_in_all : (mask : List ℕ) (found : RuleCount) (words count : ℕ) → words ≡ 4 → count ≤ 256 → HasOnlyFirst count mask → AreFirstFew mask words found
     → IsRuleCount found (rules_in count mask)
 few_in_all mask found words count four few none all =
     let first : ℕ = 64 * words in

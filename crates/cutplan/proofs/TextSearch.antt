@@ -163,12 +163,12 @@ nothing_at (x ∷ xs) (suc place) none =
     nothing_at xs place (none ∙ less_alike (suc place) (suc (length xs)) place (length xs) (λ less. omega (arith, less)) (λ more. omega (arith, more)))
 
 -- this holds for each compiled column
-pub column_others : (t : Table) (kept : List CompiledColumn) (i : ℕ) (column : CompiledColumn) → AreKept t kept → i < length kept → column ≡ get_or kept i column → OthersRise column.regions
+pub column_others : (t : Table) (kept : List CompiledColumn) (i : ℕ) (column : CompiledColumn) → AreKept t kept → i < length kept → column ≡ get_or kept i column → OthersRise column.partition.regions.items
 column_others t kept i column all below is names has =
     let p = all.plan in
     let found = input_at p t kept i column all.columns below is in
     let input = found.0 in
-    let there = subst (λ xs. Among (Other names) xs) found.2.listed (among_contained column.regions (Other names) has) in
+    let there = subst (λ xs. Among (Other names) xs) found.2.partition.listed (among_contained column.partition.regions.items (Other names) has) in
     let kind = kind_read p input.origin in
     let lits = column_literals t i input.values in
     others_of kind lits names (among_unfilter (is_listed input.values) (Other names) (stretches kind (sort_values (filter (has_kind kind) lits))) there)

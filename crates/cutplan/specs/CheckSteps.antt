@@ -1,5 +1,5 @@
 -- Steps of the check and of the compilation of columns.
-use Rattle.std.specs.Prelude.{ℕ, ◌+◌, ◌-◌, ◌≡◌, ◌<◌, ◌≤◌, ◌==◌, nat_le, Bool, true, false, not, ◌&&◌, ◌||◌, List, [], ◌∷◌, map, filter, length, drop, Option, Some, None, slice_get, IsTrue, if◌then◌else◌}
+use Rattle.std.specs.Prelude.{ℕ, ◌-◌, ◌≡◌, ◌==◌, nat_le, Bool, true, false, not, ◌&&◌, ◌||◌, List, [], ◌∷◌, map, filter, length, drop, Option, Some, None, slice_get, IsTrue, if◌then◌else◌}
 use Rattle.std.specs.List.{list_any, list_all, AllZip}
 use Rattle.std.specs.Option.{option_map_or}
 use Rattle.feel_tests.specs.Holds.{is_equal, holds}
@@ -12,7 +12,7 @@ use Rattle.dtable.specs.declared.table.Table.{Table}
 use Rattle.cutplan.specs.declared.region.Region.{Region}
 use Rattle.cutplan.specs.declared.region.Region.TheVariants.{Below, At, Between, Above, Other, Every}
 use Rattle.dtable.specs.Plan.{has_kind}
-use Rattle.cutplan.specs.Masks.{has_rule, AreMasks, Marks}
+use Rattle.cutplan.specs.Masks.{has_rule, Marks}
 use Rattle.cutplan.specs.Regions.{rule_literals, least_like, next, holds_in}
 use Rattle.cutplan.specs.Values.{is_before, with_value, sort_values}
 use Rattle.cutplan.specs.Check.{covers, holds_at, rule_cells}
@@ -101,24 +101,6 @@ uncovered t column rules cell = not (list_any (λ rule. covers (drop column (rul
 -- the rules whose cell in the column holds in the region
 abbrev pub alive_in : Table → ℕ → Region → List ℕ → List ℕ
 alive_in t column region rules = filter (λ rule. holds_at t rule column region) rules
-
--- `masks` has the masks of each of these columns at the index of the column; the first of them has
--- the index `place`
-abbrev pub HasMasksFrom : Table → ℕ → List (List Region) → List (List (List ℕ)) → Type 0
-HasMasksFrom t place columns masks = (i : ℕ) (regions : List Region) → slice_get columns i ≡ Some regions → (kept : List (List ℕ)) × (slice_get masks (place + i) ≡ Some kept) × AreMasks t (place + i) regions kept
-
--- the mask has four words and no rule at the index `count` or after it
-pub record AreRules (count : ℕ) (mask : List ℕ) : Type 0 where
-  pub words : length mask ≡ 4
-  pub within : (place : ℕ) → count ≤ place → place < 256 → has_rule mask place ≡ false
-
--- the mask has four words
-abbrev pub is_whole : List ℕ → Bool
-is_whole mask = length mask == 4
-
--- each mask has four words
-abbrev pub are_whole : List (List ℕ) → Bool
-are_whole masks = list_all is_whole masks
 
 -- one of the masks has both rules
 abbrev pub share : List (List ℕ) → ℕ → ℕ → Bool

@@ -11,11 +11,12 @@ use Rattle.dtable.specs.declared.table.Table.{Table}
 use Rattle.dtable.specs.Environment.{env}
 use Rattle.dtable.specs.Inputs.{needs, reads, value_at}
 use Rattle.dtable.specs.Plan.{PlanParts, has_kind}
+use Rattle.cutplan.specs.declared.partition.Partition.{Partition}
 use Rattle.cutplan.specs.declared.region.Region.{Region}
 use Rattle.cutplan.specs.declared.input_class.CompiledName.{CompiledName}
 use Rattle.cutplan.specs.Values.{is_value, kind_read, sort_values}
 use Rattle.cutplan.specs.Regions.{column_literals, stretches}
-use Rattle.cutplan.specs.Matching.{has_at}
+use Rattle.cutplan.specs.Matching.{has_at, IsPlaceOf}
 
 -- the literals of a table's column, if its input reads the name
 abbrev pub input_literals : ℕ → Table → ℕ × Input → List Value
@@ -75,11 +76,15 @@ ReadsItsNames p = (place : ℕ) → IsTrue (needs p.tables place) → place < le
 abbrev pub ClassesAnswerAlike : Type 0
 ClassesAnswerAlike = (p : PlanParts) (one other : List Slot) (input_class : ℕ) → ReadsItsNames p → IsInputClass p one input_class → IsInputClass p other input_class → env p one ≡ env p other
 
--- a compiled name: its index, the kind of its values, and its regions
+-- the partition of a name: the kind of its values, and its regions
+pub record IsNamePartition (p : PlanParts) (place : ℕ) (made : Partition) : Type 0 where
+  pub kind : made.kind ≡ name_kind p place
+  pub regions : made.regions.items ≡ name_regions p place
+
+-- a compiled name: its index, and its partition
 pub record IsKeptName (p : PlanParts) (place : ℕ) (kept : CompiledName) : Type 0 where
   pub at : kept.place ≡ place
-  pub kind : kept.kind ≡ name_kind p place
-  pub regions : kept.regions.items ≡ name_regions p place
+  pub partition : IsNamePartition p place kept.partition
 
 -- the compiled names that tables read, in order
 abbrev pub AreCompiledNames : PlanParts → List CompiledName → Type 0
@@ -89,5 +94,4 @@ AreCompiledNames p kept = AllZip (IsKeptName p) (names_read p) kept
 pub record IsPlaceIn (name : CompiledName) (given : List Slot) (region : ℕ) : Type 0 where
   pub value : Value
   pub is : value_at given name.place ≡ Some value
-  pub of_kind : IsTrue (is_value name.kind value)
-  pub inside : IsTrue (has_at name.regions.items region value)
+  pub lies : IsPlaceOf name.partition value region

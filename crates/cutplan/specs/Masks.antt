@@ -1,6 +1,6 @@
 -- Masks: sets of the rules of a table, as 256 bits in four words. Rules are numbered from 0 here.
-use Rattle.std.specs.Prelude.{◌≡◌, ℕ, ◌-◌, ◌/◌, ◌%◌, ◌<◌, ◌≤◌, ◌==◌, nat_lt, Bool, ◌&&◌, List, length, filter, Some, slice_get, slice_index}
-use Rattle.std.specs.List.{range_with_len, enumerate_from, AllZip}
+use Rattle.std.specs.Prelude.{◌≡◌, ℕ, ◌-◌, ◌/◌, ◌%◌, ◌<◌, ◌≤◌, ◌==◌, nat_lt, Bool, false, ◌&&◌, List, length, filter, Some, slice_get, slice_index}
+use Rattle.std.specs.List.{range_with_len, AllZip}
 use Rattle.std.specs.Option.{option_map_or}
 use Rattle.std.specs.Int.{bit_at}
 use Rattle.dtable.specs.declared.environment.Answer.{Answer}
@@ -20,6 +20,10 @@ has_rule mask place = bit_at (slice_index mask (place / 64)) (place % 64) == 1
 abbrev pub rules_in : ℕ → List ℕ → List ℕ
 rules_in count mask = filter (has_rule mask) (range_with_len 0 count)
 
+-- the mask has no rule at the index `count` or after it
+abbrev pub HasOnlyFirst : ℕ → List ℕ → Type 0
+HasOnlyFirst count mask = (place : ℕ) → count ≤ place → place < 256 → has_rule mask place ≡ false
+
 -- the mask has four words and exactly the rules that pass the test
 pub record Marks (test : ℕ → Bool) (mask : List ℕ) : Type 0 where
   pub words : length mask ≡ 4
@@ -38,10 +42,6 @@ abbrev pub MasksListMatches : Type 0
 MasksListMatches = (mask : List ℕ) (given : List Slot) (earlier : List (List Answer)) (t : Table) → length t.rules ≤ 256
     → ((place : ℕ) → place < 256 → has_rule mask place ≡ (nat_lt place (length t.rules) && rule_matches given earlier t place))
     → rules_in (length t.rules) mask ≡ matching given earlier t
-
--- the masks of each column of a table, in order
-abbrev pub AreTableMasks : Table → List (List Region) → List (List (List ℕ)) → Type 0
-AreTableMasks t columns masks = AllZip (λ (c : ℕ × List Region) (kept : List (List ℕ)). AreMasks t c.0 c.1 kept) (enumerate_from 0 columns) masks
 
 -- the table of this number has an input column of this number, both from 1
 abbrev pub IsColumnNumber : PlanParts → ℕ → ℕ → Type 0

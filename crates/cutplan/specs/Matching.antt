@@ -17,14 +17,21 @@ use Rattle.dtable.specs.Matching.{rule_matches, first_outside}
 use Rattle.dtable.specs.Plan.{has_kind}
 use Rattle.cutplan.specs.declared.rule_count.RuleCount.{RuleCount}
 use Rattle.cutplan.specs.declared.rule_count.RuleCount.TheVariants as few
+use Rattle.cutplan.specs.declared.partition.Partition.{Partition}
 use Rattle.cutplan.specs.declared.region.Region.{Region}
 use Rattle.cutplan.specs.declared.region.Region.TheVariants.{Other}
 use Rattle.cutplan.specs.Regions.{is_in}
+use Rattle.cutplan.specs.Values.{is_value}
 use Rattle.cutplan.specs.Masks.{Marks}
 
 -- the region at this index exists and contains the value
 abbrev pub has_at : List Region → ℕ → Value → Bool
 has_at regions place v = option_map_or (λ r. is_in r v) (slice_get regions place) false
+
+-- the value is of the partition's kind, and the region at this index contains it
+pub record IsPlaceOf (partition : Partition) (v : Value) (place : ℕ) : Type 0 where
+  pub of_kind : IsTrue (is_value partition.kind v)
+  pub inside : IsTrue (has_at partition.regions.items place v)
 
 -- the bytes of a text; any other value has none
 abbrev pub bytes_of : Value → List ℕ

@@ -8,7 +8,7 @@ use Rattle.dtable.specs.declared.table.Table.{Table}
 use Rattle.dtable.specs.Plan.{PlanParts}
 use Rattle.cutplan.specs.declared.region.Region.{Region}
 use Rattle.cutplan.specs.Check.{covers}
-use Rattle.cutplan.specs.Numbered.{cell_limit}
+use Rattle.cutplan.specs.Numbered.{cell_limit, cells_of, gaps_of}
 use Rattle.cutplan.specs.Regions.{table_regions}
 
 -- the indices of the items that pass a test, where the first item has the index `first`
@@ -31,3 +31,7 @@ regions_of p number = option_map_or (table_regions p) (slice_get p.tables (numbe
 abbrev pub ArePlaces : List (List Region) → (List Region → Bool) → Option (Vec ℕ) → Type 0
 ArePlaces cells test (Some found) = (length cells ≤ cell_limit) × (found.items ≡ places test 0 cells)
 ArePlaces cells test None = cell_limit < length cells
+
+-- the cells at the indices that pass the test are the gaps, in order
+abbrev pub PlacesAreGaps : Type 0
+PlacesAreGaps = (p : PlanParts) (number : ℕ) → map (slice_get (cells_of p number)) (places (is_gap_of p number) 0 (cells_of p number)) ≡ map Some (gaps_of p number)

@@ -4,12 +4,15 @@
 //! evaluated there only once, and its answer is reused for the values that follow. The regions of a
 //! column are in increasing order. Each cell is therefore evaluated once for each of its own
 //! literals and once between two of them, and not once for each region.
-ghost use Rattle.std.specs.Prelude.{◌≡◌, IfOk, IfSome, false, slice_get, true};
+ghost use Rattle.std.specs.Prelude.{◌≡◌, ◌≤◌, IfOk, IfSome, false, length, slice_get, true};
 ghost use Rattle.std.specs.Option.{option_map_or};
 ghost use Rattle.cutplan.specs.Regions.{holds_of, is_open};
-ghost use Rattle.cutplan.specs.CheckSteps.{cell_holds, cell_holds_in, column_cells, first_value};
+ghost use Rattle.cutplan.specs.Masks.{Marks};
+ghost use Rattle.cutplan.specs.CheckSteps.{cell_holds, cell_holds_in, column_cells, first_value, holds_among};
+ghost use Rattle.cutplan.specs.declared.mask.TheConstants.{MASK_CAPACITY};
 
 use crate::cuts::own_cuts;
+use crate::mask::RuleMask;
 use crate::region::{Region, is_open, least_like, next};
 use crate::sorted_cuts::{find_place, is_located_at};
 use dtable::{Rule, Sequence, Table};
@@ -177,6 +180,23 @@ pub fn probes_of<'a>(
         asked.push(CellProbe::new(alloc, kind, rule, column)?)?;
     }
     Ok(asked)
+}
+
+/// Returns the rules whose cell holds in the region. There is one `CellProbe` for each rule, and
+/// `first` is the first value of the region.
+pub fn mask_of(asked: &mut [CellProbe<'_>], region: &Region, first: &Option<Value>) -> RuleMask
+    requires few { length asked.old ≤ MASK_CAPACITY }
+    requires first { first.now ≡ first_value region.now }
+    ensures marks { Marks (holds_among asked.old region.now) result }
+    ensures same { asked.new ≡ asked.old }
+{
+    let mut mask = RuleMask::none();
+    'rules: for place in 0..asked.len() {
+        let cell = &mut asked[place];
+        let holds = cell.holds_in(region, first);
+        mask.insert_if(place, holds);
+    }
+    mask
 }
 
 /// Returns the first value of the region. A region of other texts or of all values has none.

@@ -8,8 +8,7 @@ ghost use Rattle.cutplan.specs.CompiledAnswers.{answers_of_rules, is_in_mask, co
 ghost use Rattle.cutplan.specs.Masks.{has_rule, rules_in};
 ghost use Rattle.cutplan.specs.declared.mask.TheConstants.{MASK_CAPACITY};
 
-use crate::mask::MASK_CAPACITY;
-use crate::rule_pairs::has_rule;
+use crate::mask::{MASK_CAPACITY, RuleMask};
 use crate::subset_answers::answers_of_sets;
 use dtable::{
     Answer, Fault, Hit, Sequence, Table, answers_by_hit, in_priority_order, rules_agree,
@@ -127,12 +126,11 @@ fn all_ranked(alloc: Global, table: &Table) -> Result<Sequence<usize>, AllocErro
 pub fn find_answers<'k>(
     table: &Table,
     kept: &'k CompiledAnswers,
-    mask: &[u64; 4],
+    mask: &RuleMask,
     rules: &[usize],
 ) -> Option<&'k [Answer]>
     requires kept { kept.now ≡ compiled_answers table.now }
     requires few { length table.now.rules ≤ MASK_CAPACITY }
-    requires words { length mask.now ≡ 4 }
     requires rules { rules.now ≡ rules_in (length table.now.rules) mask.now }
     ensures { IfSome result (λ answers. (number : ℕ)
         → by_hit table.now.hit number table.now rules.now ≡ Ok answers.now) }
@@ -152,10 +150,9 @@ pub fn find_answers<'k>(
 // Returns a rule that alone gives the same answers as all the matching rules, if there is one: the
 // only match, the first match under First, the highest match under Priority, or any match under Any
 // if all matches agree. `order` is the ranking of all rules of the table.
-fn deciding_rule(table: &Table, order: &[usize], mask: &[u64; 4], rules: &[usize]) -> Option<usize>
+fn deciding_rule(table: &Table, order: &[usize], mask: &RuleMask, rules: &[usize]) -> Option<usize>
     requires order { order.now ≡ ranked_rules table.now }
     requires few { length table.now.rules ≤ MASK_CAPACITY }
-    requires words { length mask.now ≡ 4 }
     requires rules { rules.now ≡ rules_in (length table.now.rules) mask.now }
     ensures { IfSome result (λ rule. (number : ℕ)
         → by_hit table.now.hit number table.now rules.now
@@ -182,8 +179,7 @@ fn deciding_rule(table: &Table, order: &[usize], mask: &[u64; 4], rules: &[usize
 }
 
 // Returns the first rule in `order` that is in the mask.
-fn first_in(order: &[usize], mask: &[u64; 4]) -> Option<usize>
-    requires { length mask.now ≡ 4 }
+fn first_in(order: &[usize], mask: &RuleMask) -> Option<usize>
     ensures { result ≡ find (is_in_mask mask.now) order.now }
 {
     for rule in order {
@@ -200,11 +196,10 @@ pub fn ranked_in(
     alloc: Global,
     table: &Table,
     order: &[usize],
-    mask: &[u64; 4],
+    mask: &RuleMask,
 ) -> Result<Sequence<usize>, AllocError>
     requires ranked { order.now ≡ all_ranked table.now }
     requires few { length table.now.rules ≤ MASK_CAPACITY }
-    requires words { length mask.now ≡ 4 }
     ensures { IfOk result (λ ranked. ranked
         ≡ in_priority_order table.now (rules_in (length table.now.rules) mask.now)) }
 {
@@ -219,9 +214,8 @@ pub fn ranked_in(
     Ok(ranked)
 }
 
-fn is_in_mask(mask: &[u64; 4], rule: usize) -> bool
-    requires { length mask.now ≡ 4 }
+fn is_in_mask(mask: &RuleMask, rule: usize) -> bool
     ensures { result ≡ is_in_mask mask.now rule }
 {
-    rule < MASK_CAPACITY && has_rule(mask, rule)
+    rule < MASK_CAPACITY && mask.has(rule)
 }

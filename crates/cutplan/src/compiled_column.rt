@@ -1,39 +1,34 @@
-//! The compiled input columns of a plan's tables: the regions of each column, with a mask for each
-//! region.
+//! The compiled input columns of a plan's tables: the partition of each column, with a mask for each
+//! of its regions. The check of a table and its evaluation both use them.
 ghost use Rattle.std.specs.Prelude.{◌≡◌, ◌≤◌, All, IfOk, length};
 ghost use Rattle.std.specs.List.{AllZip};
-ghost use Rattle.cutplan.specs.CompiledColumns.{AreCompiledColumns, IsCompiledColumn};
-ghost use Rattle.cutplan.specs.Masks.{AreMasks, AreTableMasks};
+ghost use Rattle.cutplan.specs.CompiledColumns.{AreCompiledColumns, IsCompiledColumn, regions_kept};
+ghost use Rattle.cutplan.specs.Masks.{AreMasks};
 ghost use Rattle.cutplan.specs.CheckSteps.{AreMasksBy};
 ghost use Rattle.cutplan.specs.declared.mask.TheConstants.{MASK_CAPACITY};
 
-use crate::cell_probe::{CellProbe, first_value, probes_of};
-use crate::column::{column_regions, kind_read};
-use crate::keys::keys_of_regions;
-use crate::mask::mask_of;
+use crate::cell_probe::{CellProbe, first_value, mask_of, probes_of};
+use crate::mask::RuleMask;
+use crate::partition::Partition;
 use crate::region::Region;
 use dtable::{Input, Origin, Plan, Sequence, Table};
 use feel_tests::Kind;
 use std::alloc::{AllocError, Global};
 
-/// A compiled input column: the input expression, the kind of its values, the regions with their
-/// masks, and the keys for the search of a region.
+/// A compiled input column: the input expression, the partition of the values that it reads, and
+/// the masks of the regions, in the same order.
 pub struct CompiledColumn {
     pub origin: Origin,
-    pub kind: Kind,
-    pub regions: Sequence<Region>,
-    pub masks: Sequence<[u64; 4]>,
-    pub keys: Sequence<u64>,
+    pub partition: Partition,
+    pub masks: Sequence<RuleMask>,
 }
 
 impl Drop for CompiledColumn {
     fn drop(self) {
         let CompiledColumn {
             origin: _,
-            kind: _,
-            regions: _,
+            partition: _,
             masks: _,
-            keys: _,
         } = self;
     }
 }
@@ -54,7 +49,8 @@ pub fn compiled_tables(
     Ok(kept)
 }
 
-fn compiled_columns(
+/// Compiles the columns of a table of the plan, in order.
+pub fn compiled_columns(
     alloc: Global,
     plan: &Plan,
     table: &Table,
@@ -79,43 +75,14 @@ fn compiled_column(
     requires { length table.now.rules ≤ MASK_CAPACITY }
     ensures { IfOk result (λ kept. IsCompiledColumn plan.now table.now place input.now kept) }
 {
-    let kind = kind_read(plan, input.origin);
-    let regions = column_regions(alloc, plan, table, place, input)?;
-    let masks = masks_of_column(alloc, kind, table, place, regions.as_slice())?;
-    let keys = keys_of_regions(alloc, regions.as_slice())?;
+    let partition = Partition::of_column(alloc, plan, table, place, input)?;
+    let regions = partition.regions.as_slice();
+    let masks = masks_of_column(alloc, partition.kind, table, place, regions)?;
     Ok(CompiledColumn {
         origin: input.origin,
-        kind,
-        regions,
+        partition,
         masks,
-        keys,
     })
-}
-
-/// Returns the masks of the columns of a table, one for each region in `columns`.
-pub fn masks_of_columns(
-    alloc: Global,
-    plan: &Plan,
-    table: &Table,
-    columns: &[Sequence<Region>],
-) -> Result<Sequence<Sequence<[u64; 4]>>, AllocError>
-    requires { length table.now.rules ≤ MASK_CAPACITY }
-    ensures { IfOk result (λ masks. AreTableMasks table.now columns.now masks) }
-{
-    let mut masks = Sequence::new(alloc);
-    for (column, regions) in columns.iter().enumerate() {
-        let kind = kind_of_column(plan, table, column);
-        masks.push(masks_of_column(alloc, kind, table, column, regions.as_slice())?)?;
-    }
-    Ok(masks)
-}
-
-// The kind affects only how often a cell is evaluated, so this function needs no contract.
-fn kind_of_column(plan: &Plan, table: &Table, column: usize) -> Kind {
-    match table.inputs.as_slice().get(column) {
-        Some(input) => kind_read(plan, input.origin),
-        None => Kind::Number,
-    }
 }
 
 // Returns the masks of a column with values of the kind, one for each of these regions.
@@ -125,7 +92,7 @@ fn masks_of_column(
     table: &Table,
     column: usize,
     regions: &[Region],
-) -> Result<Sequence<[u64; 4]>, AllocError>
+) -> Result<Sequence<RuleMask>, AllocError>
     requires { length table.now.rules ≤ MASK_CAPACITY }
     ensures { IfOk result (λ masks. AreMasks table.now column regions.now masks) }
 {
@@ -137,7 +104,7 @@ fn masks_by_cells(
     alloc: Global,
     asked: &mut [CellProbe<'_>],
     regions: &[Region],
-) -> Result<Sequence<[u64; 4]>, AllocError>
+) -> Result<Sequence<RuleMask>, AllocError>
     requires { length asked.old ≤ MASK_CAPACITY }
     ensures { IfOk result (λ masks. AreMasksBy asked.old regions.now masks) }
 {
@@ -147,4 +114,18 @@ fn masks_by_cells(
         masks.push(mask_of(asked, region, &first))?;
     }
     Ok(masks)
+}
+
+/// Copies the regions of these columns.
+pub fn regions_of_columns(
+    alloc: Global,
+    columns: &[CompiledColumn],
+) -> Result<Sequence<Sequence<Region>>, AllocError>
+    ensures { IfOk result (λ found. found ≡ regions_kept columns.now) }
+{
+    let mut found = Sequence::new(alloc);
+    for column in columns {
+        found.push(column.partition.duplicate_regions(alloc)?)?;
+    }
+    Ok(found)
 }

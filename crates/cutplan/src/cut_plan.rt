@@ -6,7 +6,8 @@ ghost use Rattle.dtable.specs.Priority.{all_ranked, in_priority_order};
 ghost use Rattle.cutplan.specs.Check.{cells, gaps, overlaps};
 ghost use Rattle.cutplan.specs.Matching.{IsMatchingMask};
 ghost use Rattle.cutplan.specs.CompiledAnswers.{compiled_answers};
-ghost use Rattle.cutplan.specs.Masks.{has_rule, rules_in, AreMasksOf, IsColumnNumber};
+ghost use Rattle.cutplan.specs.CompiledColumns.{AreColumnsOf};
+ghost use Rattle.cutplan.specs.Masks.{rules_in, AreMasksOf, HasOnlyFirst, IsColumnNumber};
 ghost use Rattle.cutplan.specs.declared.mask.TheConstants.{MASK_CAPACITY};
 ghost use Rattle.cutplan.specs.Numbered.{cell_limit as CELL_LIMIT, IsTableNumber, cells_of, gaps_of, overlaps_of, IsWide};
 ghost use Rattle.cutplan.specs.InputClasses.{IsInputClass};
@@ -16,15 +17,15 @@ use crate::compiled_column::{CompiledColumn, compiled_tables};
 use crate::fault::CheckFault;
 use crate::input_class::{CompiledName, class_of, compiled_names};
 use crate::law::classes_answer_alike;
-use crate::mask::{INLINE_RULES, list_rules};
+use crate::mask::{INLINE_RULES, RuleMask};
 use crate::matching::matching_mask;
 use crate::region::Region;
 use crate::rule_count::{RuleCount, rule_count_of};
 use crate::subset_answers::find_subset_answers;
 use crate::table_check::{gaps_of, overlaps_of};
 use dtable::{
-    Answer, Answers, AnswersByTable, Env, Fault, Hit, Inputs, Plan, Sequence, Table, Valuer,
-    answers_by_hit, lists_of, table_value,
+    Answer, Answers, AnswersByTable, Env, Fault, Hit, InputClasses, Inputs, Plan, Sequence, Table,
+    Valuer, answers_by_hit, lists_of, table_value,
 };
 use smallvec::SmallVec;
 use std::alloc::{AllocError, Global};
@@ -33,7 +34,6 @@ use std::marker::Model;
 /// A plan that is compiled for checks and for evaluation by masks. Contracts see it as the plan. It
 /// borrows the plan and owns the regions of its columns with their masks, the precomputed answers
 /// of its tables, and the regions of the names that the tables read, which determine input classes.
-/// The check of a table computes the regions of its columns again.
 pub struct CutPlan<'a> {
     plan: &'a Plan,
     columns: Sequence<Sequence<CompiledColumn>>,
@@ -83,8 +83,6 @@ pub fn compile(alloc: Global, plan: &Plan) -> Result<CutPlan<'_>, AllocError>
 impl<'a> Valuer for CutPlan<'a> {
     ghost plan_of = { λ plan. plan };
 
-    ghost in_class = { λ plan given input_class. IsInputClass plan given input_class };
-
     fn plan(&self) -> &Plan {
         self.plan
     }
@@ -94,6 +92,10 @@ impl<'a> Valuer for CutPlan<'a> {
         self.push_answers(alloc, inputs, self.plan.tables(), &mut answers)?;
         Ok(Env::new(self.plan.tables(), answers))
     }
+}
+
+impl<'a> InputClasses for CutPlan<'a> {
+    ghost in_class = { λ plan given input_class. IsInputClass plan given input_class };
 
     fn input_class(&self, inputs: &Inputs) -> Option<u64> {
         // proof: all inputs in one input class have the same value
@@ -109,7 +111,7 @@ impl<'a> CutPlan<'a> {
         requires { IsTableNumber self.now table }
         ensures { IfOk result (λ found. found.items ≡ overlaps_of self.now table) }
     {
-        overlaps_of(alloc, self.plan, &self.plan.tables()[table - 1])
+        overlaps_of(alloc, self.table_of(table), self.columns_of(table))
     }
 
     /// Returns the cells of a table's check that no rule covers. Tables are numbered from 1. The
@@ -121,19 +123,35 @@ impl<'a> CutPlan<'a> {
         ensures narrow { OnOk result (length (cells_of self.now table) ≤ CELL_LIMIT) }
         ensures wide { IfErr result (IsWide (length (cells_of self.now table))) }
     {
-        gaps_of(alloc, self.plan, &self.plan.tables()[table - 1])
+        gaps_of(alloc, self.table_of(table), self.columns_of(table))
     }
 
     /// Returns the masks of an input column, one for each of its regions, in the order of the
-    /// regions. Bit `(rule - 1) % 64` of word `(rule - 1) / 64` is set if the rule's cell holds for
-    /// the values of the region. Tables, columns and rules are numbered from 1.
-    pub fn masks(&self, table: usize, column: usize) -> &[[u64; 4]]
+    /// regions. A mask has the rules whose cell holds for the values of the region. Tables and
+    /// columns are numbered from 1.
+    pub fn masks(&self, table: usize, column: usize) -> &[RuleMask]
         requires table { IsTableNumber self.now table }
         requires column { IsColumnNumber self.now table column }
         ensures { AreMasksOf self.now table column result.now }
     {
-        let columns = &self.columns.as_slice()[table - 1];
-        columns.as_slice()[column - 1].masks.as_slice()
+        self.columns_of(table)[column - 1].masks.as_slice()
+    }
+
+    // Returns the table with this number.
+    fn table_of(&self, table: usize) -> &Table
+        requires { IsTableNumber self.now table }
+        ensures table { slice_get self.now.tables (table - 1) ≡ Some result.now }
+        ensures few { length result.now.rules ≤ MASK_CAPACITY }
+    {
+        &self.plan.tables()[table - 1]
+    }
+
+    // Returns the compiled columns of the table with this number.
+    fn columns_of(&self, table: usize) -> &[CompiledColumn]
+        requires { IsTableNumber self.now table }
+        ensures { AreColumnsOf self.now table result.now }
+    {
+        self.columns.as_slice()[table - 1].as_slice()
     }
 
     // Appends the answers of the plan's tables to the empty list `answers`, in order, or returns
@@ -195,7 +213,7 @@ impl<'a> CutPlan<'a> {
         earlier: &[Answers<'_>],
         place: usize,
         table: &Table,
-    ) -> Option<[u64; 4]>
+    ) -> Option<RuleMask>
         requires { slice_get self.now.tables place ≡ Some table.now }
         ensures few { OnSome result (length table.now.rules ≤ MASK_CAPACITY) }
         ensures mask { IfSome result (λ mask. IsMatchingMask given.now earlier.now table.now mask) }
@@ -211,13 +229,11 @@ fn value_of_mask<'k>(
     number: usize,
     table: &Table,
     kept: &'k CompiledAnswers,
-    mask: &[u64; 4],
+    mask: &RuleMask,
 ) -> Result<Answers<'k>, Fault>
     requires kept { kept.now ≡ compiled_answers table.now }
-    requires words { length mask.now ≡ 4 }
     requires few { length table.now.rules ≤ MASK_CAPACITY }
-    requires within { (place : ℕ) → length table.now.rules ≤ place → place < 256
-        → has_rule mask.now place ≡ false }
+    requires within { HasOnlyFirst (length table.now.rules) mask.now }
     ensures { Gives (by_hit table.now.hit number table.now
         (rules_in (length table.now.rules) mask.now)) result }
 {
@@ -229,7 +245,7 @@ fn value_of_mask<'k>(
         RuleCount::One(rule) => value_of_rules(alloc, number, table, kept, mask, &[rule]),
         RuleCount::More => {
             let mut rules = SmallVec::<usize, INLINE_RULES>::new(alloc);
-            list_rules(mask, table.rules.len(), &mut rules)?;
+            mask.list_rules(table.rules.len(), &mut rules)?;
             value_of_rules(alloc, number, table, kept, mask, rules.as_slice())
         }
     }
@@ -243,11 +259,10 @@ fn value_of_rules<'k>(
     number: usize,
     table: &Table,
     kept: &'k CompiledAnswers,
-    mask: &[u64; 4],
+    mask: &RuleMask,
     rules: &[usize],
 ) -> Result<Answers<'k>, Fault>
     requires kept { kept.now ≡ compiled_answers table.now }
-    requires words { length mask.now ≡ 4 }
     requires few { length table.now.rules ≤ MASK_CAPACITY }
     requires rules { rules.now ≡ rules_in (length table.now.rules) mask.now }
     ensures { Gives (by_hit table.now.hit number table.now
@@ -269,11 +284,10 @@ fn in_output_order(
     alloc: Global,
     table: &Table,
     order: &[usize],
-    mask: &[u64; 4],
+    mask: &RuleMask,
 ) -> Result<Sequence<Answer>, AllocError>
     requires ranked { order.now ≡ all_ranked table.now }
     requires few { length table.now.rules ≤ MASK_CAPACITY }
-    requires words { length mask.now ≡ 4 }
     ensures { IfOk result (λ answers. answers ≡ lists table.now
         (in_priority_order table.now (rules_in (length table.now.rules) mask.now))) }
 {

@@ -4,13 +4,15 @@ ghost use Rattle.std.specs.Prelude.{◌≡◌, ◌+◌, ◌*◌, ◌≤◌, ◌<
 ghost use Rattle.std.specs.Bool.{OnTrue, OnFalse};
 ghost use Rattle.std.specs.List.{list_any};
 ghost use Rattle.cutplan.specs.Check.{cells, covers};
-ghost use Rattle.cutplan.specs.Masks.{AreTableMasks, rules_in};
+ghost use Rattle.cutplan.specs.Masks.{rules_in, HasOnlyFirst};
 ghost use Rattle.cutplan.specs.Places.{ArePlaces, is_gap, places};
-ghost use Rattle.cutplan.specs.CheckSteps.{uncovered, AreRules, HasMasksFrom};
+ghost use Rattle.cutplan.specs.CheckSteps.{uncovered};
+ghost use Rattle.cutplan.specs.CompiledColumns.{regions_kept, AreMasked};
 ghost use Rattle.cutplan.specs.Numbered.{cell_limit};
 ghost use Rattle.cutplan.specs.declared.mask.TheConstants.{MASK_CAPACITY};
 
-use crate::mask::{first_rules, meet};
+use crate::compiled_column::CompiledColumn;
+use crate::mask::RuleMask;
 use crate::region::Region;
 use dtable::{Sequence, Table};
 use std::alloc::{AllocError, Global};
@@ -19,11 +21,11 @@ use std::alloc::{AllocError, Global};
 pub const CELL_LIMIT: usize = 65_536;
 
 /// Returns whether the check of these columns has more cells than the limit.
-pub fn is_wide(columns: &[Sequence<Region>]) -> bool
-    ensures wide { OnTrue result (cell_limit < length (cells columns.now)) }
-    ensures narrow { OnFalse result (length (cells columns.now) ≤ cell_limit) }
+pub fn is_wide(columns: &[CompiledColumn]) -> bool
+    ensures wide { OnTrue result (cell_limit < length (cells (regions_kept columns.now))) }
+    ensures narrow { OnFalse result (length (cells (regions_kept columns.now)) ≤ cell_limit) }
 {
-    cell_count(columns) > CELL_LIMIT
+    count_cells(columns) > CELL_LIMIT
 }
 
 /// Returns the number of cells of the columns, or the limit plus one if there are more.
@@ -40,11 +42,22 @@ pub fn cell_count(columns: &[Sequence<Region>]) -> usize
 // Returns whether there is no cell, which is so if a column has no region. Such a check must not
 // start a walk, because the walk would visit every tuple of regions of the columns before that
 // column, and their number has no limit.
-fn has_no_cell(columns: &[Sequence<Region>]) -> bool
-    ensures none { OnTrue result (length (cells columns.now) ≡ 0) }
-    ensures some { OnFalse result (0 < length (cells columns.now)) }
+fn has_no_cell(columns: &[CompiledColumn]) -> bool
+    ensures none { OnTrue result (length (cells (regions_kept columns.now)) ≡ 0) }
+    ensures some { OnFalse result (0 < length (cells (regions_kept columns.now))) }
 {
-    cell_count(columns) == 0
+    count_cells(columns) == 0
+}
+
+// Returns the number of cells of compiled columns, or the limit plus one if there are more.
+fn count_cells(columns: &[CompiledColumn]) -> usize
+    ensures { result ≡ min (length (cells (regions_kept columns.now))) (cell_limit + 1) }
+{
+    let mut count = 1;
+    for column in columns {
+        count = capped_product(count, column.partition.regions.as_slice().len());
+    }
+    count
 }
 
 // Returns the product, or the limit plus one if the product is greater.
@@ -54,54 +67,51 @@ fn capped_product(count: usize, factor: usize) -> usize
     count.saturating_mul(factor).min(CELL_LIMIT + 1)
 }
 
-/// Returns the cells of the columns that no rule of the table covers, in order. `masks` are the
-/// masks of the columns.
+/// Returns the cells of the columns that no rule of the table covers, in order. `columns` are the
+/// compiled columns of the table.
 pub fn gaps(
     alloc: Global,
     table: &Table,
-    columns: &[Sequence<Region>],
-    masks: &[Sequence<[u64; 4]>],
+    columns: &[CompiledColumn],
 ) -> Result<Vec<Sequence<Region>>, AllocError>
     requires far { length columns.now < 2 ^ 59 }
     requires few { length table.now.rules ≤ MASK_CAPACITY }
-    requires masks { AreTableMasks table.now columns.now masks.now }
+    requires masks { AreMasked table.now 0 columns.now }
     ensures { IfOk result (λ found. found.items
         ≡ filter (λ cell. not (list_any (λ r. covers r.cells cell) table.now.rules))
-        (cells columns.now)) }
+        (cells (regions_kept columns.now))) }
 {
     if has_no_cell(columns) {
         return Ok(Vec::new(alloc));
     }
-    let rules = first_rules(table.rules.len());
-    uncovered_cells(alloc, table, 0, columns, masks, &rules)
+    let rules = RuleMask::first_rules(table.rules.len());
+    uncovered_cells(alloc, table, 0, columns, &rules)
 }
 
 // Returns the cells of these columns that none of the remaining `rules` covers, in order. `columns`
-// are the columns of the table from the index `place` on, and `masks` are the masks of all its
-// columns.
+// are the compiled columns of the table from the index `place` on.
 fn uncovered_cells(
     alloc: Global,
     table: &Table,
     place: usize,
-    columns: &[Sequence<Region>],
-    masks: &[Sequence<[u64; 4]>],
-    rules: &[u64; 4],
+    columns: &[CompiledColumn],
+    rules: &RuleMask,
 ) -> Result<Vec<Sequence<Region>>, AllocError>
     requires far { place + length columns.now < 2 ^ 59 }
     requires few { length table.now.rules ≤ MASK_CAPACITY }
-    requires masks { HasMasksFrom table.now place columns.now masks.now }
-    requires rules { AreRules (length table.now.rules) rules.now }
+    requires masks { AreMasked table.now place columns.now }
+    requires rules { HasOnlyFirst (length table.now.rules) rules.now }
     ensures { IfOk result (λ found. found.items
         ≡ filter (uncovered table.now place (rules_in (length table.now.rules) rules.now))
-        (cells columns.now)) }
+        (cells (regions_kept columns.now))) }
 {
     match columns.split_first() {
-        Some((regions, more)) => {
-            let here = masks[place].as_slice();
+        Some((column, more)) => {
+            let masks = column.masks.as_slice();
             let mut found = Vec::new(alloc);
-            for (at, region) in regions.as_slice().iter().enumerate() {
-                let alive = meet(rules, &here[at]);
-                let following = uncovered_cells(alloc, table, place + 1, more, masks, &alive)?;
+            for (at, region) in column.partition.regions.as_slice().iter().enumerate() {
+                let alive = rules.meet(&masks[at]);
+                let following = uncovered_cells(alloc, table, place + 1, more, &alive)?;
                 put_after(alloc, region, following, &mut found)?;
             }
             Ok(found)
@@ -114,28 +124,18 @@ fn uncovered_cells(
 fn uncovered_end(
     alloc: Global,
     count: usize,
-    rules: &[u64; 4],
+    rules: &RuleMask,
 ) -> Result<Vec<Sequence<Region>>, AllocError>
     requires few { count ≤ MASK_CAPACITY }
-    requires rules { AreRules count rules.now }
+    requires rules { HasOnlyFirst count rules.now }
     ensures { IfOk result (λ found. found.items
         ≡ (if length (rules_in count rules.now) == 0 then [] ∷ [] else [])) }
 {
     let mut found = Vec::new(alloc);
-    if is_none(count, rules) {
+    if rules.is_none(count) {
         found.push(Sequence::new(alloc))?;
     }
     Ok(found)
-}
-
-// Returns whether the mask has none of the first `count` rules.
-#[tactic(auto, using(crate::proofs::Meeting::none_is))]
-fn is_none(count: usize, rules: &[u64; 4]) -> bool
-    requires few { count ≤ MASK_CAPACITY }
-    requires rules { AreRules count rules.now }
-    ensures { result ≡ (length (rules_in count rules.now) == 0) }
-{
-    (rules[0] == 0) & (rules[1] == 0) & (rules[2] == 0) & (rules[3] == 0)
 }
 
 // Appends these cells, each with the region put before it.
@@ -157,17 +157,16 @@ fn put_after(
 }
 
 /// Returns the indices of the gaps among the cells of the columns, from 0, in increasing order, or
-/// `None` if there are more cells than the limit. `masks` are the masks of the columns.
+/// `None` if there are more cells than the limit. `columns` are the compiled columns of the table.
 pub fn gap_places(
     alloc: Global,
     table: &Table,
-    columns: &[Sequence<Region>],
-    masks: &[Sequence<[u64; 4]>],
+    columns: &[CompiledColumn],
 ) -> Result<Option<Vec<u32>>, AllocError>
     requires far { length columns.now < 2 ^ 59 }
     requires few { length table.now.rules ≤ MASK_CAPACITY }
-    requires masks { AreTableMasks table.now columns.now masks.now }
-    ensures { IfOk result (ArePlaces (cells columns.now) (is_gap table.now)) }
+    requires masks { AreMasked table.now 0 columns.now }
+    ensures { IfOk result (ArePlaces (cells (regions_kept columns.now)) (is_gap table.now)) }
 {
     if is_wide(columns) {
         return Ok(None);
@@ -179,8 +178,8 @@ pub fn gap_places(
         found: Vec::new(alloc),
         passed: 0,
     };
-    let rules = first_rules(table.rules.len());
-    walk_cells(table, 0, columns, masks, &rules, &mut walk)?;
+    let rules = RuleMask::first_rules(table.rules.len());
+    walk_cells(table, 0, columns, &rules, &mut walk)?;
     Ok(Some(walk.found))
 }
 
@@ -193,32 +192,30 @@ struct Walk {
 }
 
 // Walks over the cells of these columns, in order, and records those that none of the remaining
-// `rules` covers. `columns` are the columns of the table from the index `place` on, and `masks` are
-// the masks of all its columns.
+// `rules` covers. `columns` are the compiled columns of the table from the index `place` on.
 fn walk_cells(
     table: &Table,
     place: usize,
-    columns: &[Sequence<Region>],
-    masks: &[Sequence<[u64; 4]>],
-    rules: &[u64; 4],
+    columns: &[CompiledColumn],
+    rules: &RuleMask,
     walk: &mut Walk,
 ) -> Result<(), AllocError>
     requires far { place + length columns.now < 2 ^ 59 }
     requires few { length table.now.rules ≤ MASK_CAPACITY }
-    requires masks { HasMasksFrom table.now place columns.now masks.now }
-    requires rules { AreRules (length table.now.rules) rules.now }
-    requires room { walk.old.passed + length (cells columns.now) ≤ cell_limit }
+    requires masks { AreMasked table.now place columns.now }
+    requires rules { HasOnlyFirst (length table.now.rules) rules.now }
+    requires room { walk.old.passed + length (cells (regions_kept columns.now)) ≤ cell_limit }
     ensures found { OnOk result (walk.new.found.items ≡ walk.old.found.items
         ++ places (uncovered table.now place (rules_in (length table.now.rules) rules.now))
-        walk.old.passed (cells columns.now)) }
-    ensures passed { OnOk result (walk.new.passed ≡ walk.old.passed + length (cells columns.now)) }
+        walk.old.passed (cells (regions_kept columns.now))) }
+    ensures passed { OnOk result (walk.new.passed
+        ≡ walk.old.passed + length (cells (regions_kept columns.now))) }
 {
     match columns.split_first() {
-        Some((regions, more)) => {
-            let here = masks[place].as_slice();
-            for at in 0..regions.len() {
-                let left = meet(rules, &here[at]);
-                walk_cells(table, place + 1, more, masks, &left, walk)?;
+        Some((column, more)) => {
+            for mask in column.masks.as_slice() {
+                let left = rules.meet(mask);
+                walk_cells(table, place + 1, more, &left, walk)?;
             }
             Ok(())
         }
@@ -227,15 +224,15 @@ fn walk_cells(
 }
 
 // With no columns left, the cell is a gap if no rule remains.
-fn walk_end(count: usize, rules: &[u64; 4], walk: &mut Walk) -> Result<(), AllocError>
+fn walk_end(count: usize, rules: &RuleMask, walk: &mut Walk) -> Result<(), AllocError>
     requires few { count ≤ MASK_CAPACITY }
-    requires rules { AreRules count rules.now }
+    requires rules { HasOnlyFirst count rules.now }
     requires room { walk.old.passed < cell_limit }
     ensures found { OnOk result (walk.new.found.items ≡ walk.old.found.items
         ++ (if length (rules_in count rules.now) == 0 then walk.old.passed ∷ [] else [])) }
     ensures passed { OnOk result (walk.new.passed ≡ walk.old.passed + 1) }
 {
-    if is_none(count, rules) {
+    if rules.is_none(count) {
         walk.found.push(walk.passed)?;
     }
     walk.passed += 1;

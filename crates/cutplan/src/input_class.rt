@@ -4,33 +4,22 @@ ghost use Rattle.std.specs.Prelude.{◌≡◌, IfOk, IfSome};
 ghost use Rattle.cutplan.specs.Matching.{OthersRise};
 ghost use Rattle.cutplan.specs.InputClasses.{AreCompiledNames, IsKeptName, IsPlaceIn, IsInputClass, names_read, with_place};
 
-use crate::column::kind_read;
-use crate::cuts::cuts_of_name;
-use crate::keys::keys_of_regions;
-use crate::lookup::place_of;
-use crate::region::{Region, is_value};
-use crate::regions_from_cuts::regions_between;
-use dtable::{Inputs, Origin, Plan, Sequence};
-use feel_tests::Kind;
+use crate::partition::Partition;
+use dtable::{Inputs, Plan, Sequence};
 use std::alloc::{AllocError, Global};
 
-/// A compiled name that tables read: its index among the plan's names, the kind of its values, the
-/// regions into which the columns that read it cut its values, and the keys for the search of a
-/// region.
+/// A compiled name that tables read: its index among the plan's names, and the partition of its
+/// values by all columns that read it.
 pub struct CompiledName {
     pub place: usize,
-    pub kind: Kind,
-    pub regions: Vec<Region>,
-    pub keys: Sequence<u64>,
+    pub partition: Partition,
 }
 
 impl Drop for CompiledName {
     fn drop(self) {
         let CompiledName {
             place: _,
-            kind: _,
-            regions: _,
-            keys: _,
+            partition: _,
         } = self;
     }
 }
@@ -62,16 +51,8 @@ fn names_read(alloc: Global, plan: &Plan) -> Result<Sequence<usize>, AllocError>
 fn compiled_name(alloc: Global, plan: &Plan, place: usize) -> Result<CompiledName, AllocError>
     ensures { IfOk result (λ kept. IsKeptName plan.now place kept) }
 {
-    let kind = kind_read(plan, Origin::Given(place));
-    let cuts = cuts_of_name(alloc, kind, plan.tables(), place)?;
-    let regions = regions_between(alloc, kind, cuts)?;
-    let keys = keys_of_regions(alloc, regions.as_slice())?;
-    Ok(CompiledName {
-        place,
-        kind,
-        regions,
-        keys,
-    })
+    let partition = Partition::of_name(alloc, plan, place)?;
+    Ok(CompiledName { place, partition })
 }
 
 /// Returns the number of the input class of the inputs. There is none if a name has no value of its
@@ -83,7 +64,7 @@ pub fn class_of(plan: &Plan, names: &[CompiledName], given: &Inputs) -> Option<u
     let mut input_class: u64 = 0;
     for name in names {
         let place = place_in(name, given)?;
-        input_class = with_place(input_class, name.regions.as_slice().len(), place)?;
+        input_class = with_place(input_class, name.partition.regions.as_slice().len(), place)?;
     }
     Some(input_class)
 }
@@ -97,12 +78,9 @@ fn with_place(number: u64, count: usize, place: usize) -> Option<u64>
 
 // Returns the index of the region that contains the value of the name.
 fn place_in(name: &CompiledName, given: &Inputs) -> Option<usize>
-    requires { OthersRise name.now.regions.items }
+    requires { OthersRise name.now.partition.regions.items }
     ensures { IfSome result (IsPlaceIn name.now given.now) }
 {
     let value = given.get(name.place)?;
-    if !is_value(name.kind, value) {
-        return None;
-    }
-    place_of(name.regions.as_slice(), name.keys.as_slice(), value)
+    name.partition.place_of(value)
 }

@@ -2,6 +2,7 @@
 //! does nothing; its contract states the theorem.
 ghost use Rattle.cutplan.specs.Laws.{AllowedAreInside, CellsHoldAlike, CutsAreLiterals, CutsRise, FitsAreMatches, GapIffNoRuleMatches, GapsMatchNothing, OverlapIffTwoRulesMatch, OverlapsMatchTogether, RegionsHoldValues, RegionsPartValues};
 ghost use Rattle.cutplan.specs.Masks.{MasksListMatches};
+ghost use Rattle.cutplan.specs.Places.{PlacesAreGaps};
 ghost use Rattle.cutplan.specs.ClassWise.{ClassesAreValued};
 ghost use Rattle.cutplan.specs.InputClasses.{ClassesAnswerAlike};
 
@@ -19,6 +20,13 @@ pub fn regions_part_values()
 /// gaps.
 pub fn gap_iff_no_rule_matches()
     ensures { GapIffNoRuleMatches }
+{}
+
+/// The cells at the indices that `check_table` lists are the gaps that `CutPlan::gaps` lists, in
+/// order. For example, if the gaps of a table with ten cells are its first cell and its last one,
+/// `check_table` lists 0 and 9.
+pub fn places_are_gaps()
+    ensures { PlacesAreGaps }
 {}
 
 /// Each region of a column contains an allowed value.

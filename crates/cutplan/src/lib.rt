@@ -24,12 +24,12 @@
 //!
 //! Begin with `specs/Regions.antt`, which defines the regions of a column, and `specs/Check.antt`,
 //! which defines gaps and overlaps. `specs/Masks.antt` defines masks, `specs/Matching.antt` the
-//! search by masks, and `specs/InputClasses.antt` input classes. Then read `cut_plan.rt`, whose
-//! functions carry the promises, and `law.rt`.
+//! search by masks, and `specs/InputClasses.antt` input classes. Then read `partition.rt`, which
+//! makes the regions of a column and of a name, `cut_plan.rt`, whose functions carry the promises,
+//! and `law.rt`.
 #![tactic(auto)]
 
 mod cell_probe;
-mod column;
 mod compiled_answers;
 mod compiled_column;
 mod cut_plan;
@@ -43,6 +43,7 @@ mod lookup;
 mod mask;
 mod matching;
 mod overlap;
+mod partition;
 mod region;
 mod regions_from_cuts;
 mod rule_count;
@@ -59,9 +60,10 @@ pub use gap::{CELL_LIMIT, cell_count};
 pub use law::{
     allowed_are_inside, cells_hold_alike, classes_answer_alike, classes_are_valued,
     cuts_are_literals, cuts_rise, fits_are_matches, gap_iff_no_rule_matches, gaps_match_nothing,
-    masks_list_matches, overlap_iff_two_rules_match, overlaps_match_together, regions_hold_values,
-    regions_part_values,
+    masks_list_matches, overlap_iff_two_rules_match, overlaps_match_together, places_are_gaps,
+    regions_hold_values, regions_part_values,
 };
+pub use mask::RuleMask;
 pub use region::Region;
 pub use table_check::{TableCheck, check_table};
 pub use violation_law::errors_are_faults;

@@ -9,30 +9,14 @@ ghost use Rattle.feel_tests.specs.declared.value.Value.TheVariants as values;
 ghost use Rattle.cutplan.specs.declared.region.Region.TheVariants.{Other};
 ghost use Rattle.cutplan.specs.Regions.{is_in};
 ghost use Rattle.cutplan.specs.Matching.{bytes_of, has_at, AreRisingTexts, OthersRise};
-ghost use Rattle.cutplan.specs.CompiledColumns.{IsMaskOf};
 
-use crate::compiled_column::CompiledColumn;
 use crate::keys::{key_of_integer, key_of_text};
-use crate::region::{Region, is_among, is_in, is_less, is_value};
+use crate::region::{Region, is_among, is_in, is_less};
 use feel_tests::{Text, Value};
 use std::cmp::Ordering;
 
 /// The greatest number of keys for which a linear search is faster than a binary search.
 const FEW_KEYS: usize = 16;
-
-/// Returns the mask of the region that contains the value, if the value is of the column's kind and
-/// lies in a region.
-pub fn mask_of<'c>(column: &'c CompiledColumn, value: &Value) -> Option<&'c [u64; 4]>
-    requires { OthersRise column.now.regions }
-    ensures { IfSome result (λ mask. IsMaskOf column.now value.now mask.now) }
-{
-    if !is_value(column.kind, value) {
-        return None;
-    }
-    let place = place_of(column.regions.as_slice(), column.keys.as_slice(), value)?;
-    let mask = column.masks.as_slice().get(place)?;
-    Some(mask)
-}
 
 /// Returns the index of a region that contains the value, if there is one. The keys of the regions
 /// usually lead to it at once. Otherwise a binary search over the regions, which are in increasing

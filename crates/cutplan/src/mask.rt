@@ -1,16 +1,13 @@
-//! Masks: sets of the rules of a table, as 256 bits in four words.
-ghost use Rattle.std.specs.Prelude.{◌≡◌, ◌<◌, ◌≤◌, ◌==◌, ◌&&◌, ◌||◌, ◌++◌, ℕ, [], false, length, nat_lt, OnOk};
+//! Sets of the rules of a table, as 256 bits in four words.
+ghost use Rattle.std.specs.Prelude.{◌≡◌, ◌<◌, ◌≤◌, ◌==◌, ◌&&◌, ◌||◌, ◌++◌, ◌∷◌, ℕ, [], false, length, nat_lt, slice_index, OnOk};
 ghost use Rattle.std.specs.Int.{bit_at};
 ghost use Rattle.cutplan.specs.Matching.{places_set};
-ghost use Rattle.cutplan.specs.Masks.{has_rule, rules_in, Marks};
-ghost use Rattle.cutplan.specs.CheckSteps.{first_value, holds_among};
+ghost use Rattle.cutplan.specs.Masks.{has_rule, rules_in, HasOnlyFirst, Marks};
 ghost use Rattle.cutplan.specs.declared.mask.TheConstants.{MASK_CAPACITY};
 
-use crate::cell_probe::CellProbe;
-use crate::region::Region;
-use feel_tests::Value;
 use smallvec::SmallVec;
 use std::alloc::AllocError;
+use std::marker::Model;
 
 /// The number of rules that a mask has bits for. No table has more rules.
 pub const MASK_CAPACITY: usize = 256;
@@ -18,75 +15,166 @@ pub const MASK_CAPACITY: usize = 256;
 /// The number of rules that are listed without an allocation.
 pub const INLINE_RULES: usize = 8;
 
-/// Returns the rules whose cell holds in the region. There is one `CellProbe` for each rule, and
-/// `first` is the first value of the region.
-pub fn mask_of(asked: &mut [CellProbe<'_>], region: &Region, first: &Option<Value>) -> [u64; 4]
-    requires few { length asked.old ≤ MASK_CAPACITY }
-    requires first { first.now ≡ first_value region.now }
-    ensures marks { Marks (holds_among asked.old region.now) result }
-    ensures same { asked.new ≡ asked.old }
-{
-    let mut mask = [0u64; 4];
-    'rules: for place in 0..asked.len() {
-        let cell = &mut asked[place];
-        let holds = cell.holds_in(region, first);
-        insert_if(&mut mask, place, holds);
+/// A set of rules of a table. Contracts see it as four words of 64 bits. A rule is in the set if
+/// its bit is set; `specs/Masks.antt` says which bit that is.
+#[derive(Clone, Copy)]
+pub struct RuleMask {
+    words: [u64; 4],
+}
+
+impl Model for RuleMask {
+    ghost use Rattle.std.specs.Prelude.{◌≡◌, ℕ, List, length};
+
+    ghost Value = { List ℕ };
+
+    ghost view = { λ m. m.words };
+
+    ghost invariant = { λ m. length m.words ≡ 4 };
+
+    ghost inverse = { λ words. record { words = words } };
+}
+
+impl RuleMask {
+    /// Returns the words of the mask. Rules are numbered from 1: bit `(rule - 1) % 64` of word
+    /// `(rule - 1) / 64` is that of the rule.
+    pub fn words(&self) -> &[u64; 4]
+        ensures words { result.now ≡ self.now }
+        ensures four { length self.now ≡ 4 }
+    {
+        &self.words
     }
-    mask
-}
 
-fn insert_if(mask: &mut [u64; 4], place: usize, is_wanted: bool)
-    requires words { length mask.old ≡ 4 }
-    requires within { place < MASK_CAPACITY }
-    ensures words { length mask.new ≡ 4 }
-    ensures has { (other : ℕ) → other < 256 → has_rule mask.new other
-        ≡ (has_rule mask.old other || (is_wanted && (other == place))) }
-{
-    if is_wanted {
-        insert(mask, place);
+    /// Returns the mask without rules.
+    #[tactic(auto, using(crate::proofs::FirstRules::none_marked))]
+    pub(crate) fn none() -> RuleMask
+        ensures { Marks (λ place. false) result }
+    {
+        RuleMask { words: [0; 4] }
     }
-}
 
-fn insert(mask: &mut [u64; 4], place: usize)
-    requires words { length mask.old ≡ 4 }
-    requires within { place < MASK_CAPACITY }
-    ensures words { length mask.new ≡ 4 }
-    ensures has { (other : ℕ) → other < 256 → has_rule mask.new other
-        ≡ (has_rule mask.old other || (other == place)) }
-{
-    mask[place / 64] |= 1u64 << (place % 64);
-}
-
-/// Returns the rules that are in both masks.
-#[tactic(auto, using(crate::proofs::MaskBits::met))]
-pub fn meet(one: &[u64; 4], other: &[u64; 4]) -> [u64; 4]
-    requires words { (length one.now ≡ 4) × (length other.now ≡ 4) }
-    ensures words { length result ≡ 4 }
-    ensures has { (place : ℕ) → place < 256 → has_rule result place
-        ≡ (has_rule one.now place && has_rule other.now place) }
-{
-    [
-        one[0] & other[0],
-        one[1] & other[1],
-        one[2] & other[2],
-        one[3] & other[3],
-    ]
-}
-
-/// Returns the mask of the first `count` rules.
-pub fn first_rules(count: usize) -> [u64; 4]
-    requires { count ≤ MASK_CAPACITY }
-    ensures { Marks (λ place. nat_lt place count) result }
-{
-    if count <= 64 {
-        return [low_bits(count), 0, 0, 0];
+    /// Returns the mask of the first `count` rules.
+    pub(crate) fn first_rules(count: usize) -> RuleMask
+        requires { count ≤ MASK_CAPACITY }
+        ensures { Marks (λ place. nat_lt place count) result }
+    {
+        if count <= 64 {
+            return RuleMask::from_first_word(low_bits(count));
+        }
+        RuleMask {
+            words: [
+                low_bits(count),
+                low_bits(count.saturating_sub(64)),
+                low_bits(count.saturating_sub(128)),
+                low_bits(count.saturating_sub(192)),
+            ],
+        }
     }
-    [
-        low_bits(count),
-        low_bits(count.saturating_sub(64)),
-        low_bits(count.saturating_sub(128)),
-        low_bits(count.saturating_sub(192)),
-    ]
+
+    /// Returns the mask whose first word is this and whose other words are zero.
+    pub(crate) fn from_first_word(word: u64) -> RuleMask
+        ensures { result ≡ word ∷ 0 ∷ 0 ∷ 0 ∷ [] }
+    {
+        RuleMask {
+            words: [word, 0, 0, 0],
+        }
+    }
+
+    /// Returns the first word of the mask, which has the first 64 rules.
+    pub(crate) fn first_word(&self) -> u64
+        ensures { result ≡ slice_index self.now 0 }
+    {
+        self.words[0]
+    }
+
+    /// Adds the rule at this index if it is wanted.
+    pub(crate) fn insert_if(&mut self, place: usize, is_wanted: bool)
+        requires { place < MASK_CAPACITY }
+        ensures words { length self.new ≡ 4 }
+        ensures has { (other : ℕ) → other < 256 → has_rule self.new other
+            ≡ (has_rule self.old other || (is_wanted && (other == place))) }
+    {
+        // proof: the mask has four words
+        let _ = &self.words;
+        if is_wanted {
+            self.insert(place);
+        }
+    }
+
+    fn insert(&mut self, place: usize)
+        requires { place < MASK_CAPACITY }
+        ensures words { length self.new ≡ 4 }
+        ensures has { (other : ℕ) → other < 256 → has_rule self.new other
+            ≡ (has_rule self.old other || (other == place)) }
+    {
+        self.words[place / 64] |= 1u64 << (place % 64);
+    }
+
+    /// Returns the rules that are in both masks.
+    pub(crate) fn meet(&self, other: &RuleMask) -> RuleMask
+        ensures words { length result ≡ 4 }
+        ensures has { (place : ℕ) → place < 256 → has_rule result place
+            ≡ (has_rule self.now place && has_rule other.now place) }
+    {
+        RuleMask {
+            words: [
+                self.words[0] & other.words[0],
+                self.words[1] & other.words[1],
+                self.words[2] & other.words[2],
+                self.words[3] & other.words[3],
+            ],
+        }
+    }
+
+    /// Returns the rules that are in one of the masks or in both.
+    pub(crate) fn join(&self, other: &RuleMask) -> RuleMask
+        ensures words { length result ≡ 4 }
+        ensures has { (place : ℕ) → place < 256 → has_rule result place
+            ≡ (has_rule self.now place || has_rule other.now place) }
+    {
+        RuleMask {
+            words: [
+                self.words[0] | other.words[0],
+                self.words[1] | other.words[1],
+                self.words[2] | other.words[2],
+                self.words[3] | other.words[3],
+            ],
+        }
+    }
+
+    /// Returns whether the mask has the rule at this index.
+    pub(crate) fn has(&self, place: usize) -> bool
+        requires { place < MASK_CAPACITY }
+        ensures { result ≡ has_rule self.now place }
+    {
+        (self.words[place / 64] >> (place % 64)) & 1 == 1
+    }
+
+    /// Returns whether the mask is empty. It has only rules among the first `count`.
+    pub(crate) fn is_none(&self, count: usize) -> bool
+        requires few { count ≤ MASK_CAPACITY }
+        requires within { HasOnlyFirst count self.now }
+        ensures { result ≡ (length (rules_in count self.now) == 0) }
+    {
+        (self.words[0] == 0) & (self.words[1] == 0) & (self.words[2] == 0) & (self.words[3] == 0)
+    }
+
+    /// Appends the rules of the mask to the empty list `found`, in order. The mask has only rules
+    /// among the first `count`.
+    pub(crate) fn list_rules(
+        &self,
+        count: usize,
+        found: &mut SmallVec<usize, INLINE_RULES>,
+    ) -> Result<(), AllocError>
+        requires few { count ≤ MASK_CAPACITY }
+        requires within { HasOnlyFirst count self.now }
+        requires none { found.old.items ≡ [] }
+        ensures { OnOk result (found.new.items ≡ rules_in count self.now) }
+    {
+        'words: for word in 0..4 {
+            push_places(self.words[word], 64 * word, found)?;
+        }
+        Ok(())
+    }
 }
 
 // Returns a word with the lowest `count` bits set, or all bits if `count` is at least 64.
@@ -101,25 +189,6 @@ fn low_bits(count: usize) -> u64
     } else {
         u64::MAX >> (64 - count)
     }
-}
-
-/// Appends the rules of the mask to the empty list `found`, in order. The mask has no rule at the
-/// index `count` or after it.
-pub fn list_rules(
-    mask: &[u64; 4],
-    count: usize,
-    found: &mut SmallVec<usize, INLINE_RULES>,
-) -> Result<(), AllocError>
-    requires words { length mask.now ≡ 4 }
-    requires few { count ≤ MASK_CAPACITY }
-    requires within { (place : ℕ) → count ≤ place → place < 256 → has_rule mask.now place ≡ false }
-    requires none { found.old.items ≡ [] }
-    ensures { OnOk result (found.new.items ≡ rules_in count mask.now) }
-{
-    'words: for word in 0..4 {
-        push_places(mask[word], 64 * word, found)?;
-    }
-    Ok(())
 }
 
 // Appends the indices of the bits that are set in the word. The lowest bit has the index `first`.

@@ -3,15 +3,16 @@
 //! For each rule, the masks of a column that contain it also contain all rules that share a region
 //! of that column with it. Each mask is therefore visited once for each rule, and not once for each
 //! pair of rules.
-ghost use Rattle.std.specs.Prelude.{◌≡◌, ◌+◌, ◌-◌, ◌<◌, ◌≤◌, ◌++◌, ◌∷◌, [], IfOk, IsTrue, OnOk, filter, length, if◌then◌else◌};
-ghost use Rattle.std.specs.List.{list_all};
+ghost use Rattle.std.specs.Prelude.{◌≡◌, ◌+◌, ◌-◌, ◌<◌, ◌≤◌, ◌++◌, ◌∷◌, [], IfOk, OnOk, filter, length, if◌then◌else◌};
 ghost use Rattle.cutplan.specs.Check.{pairs, pairs_with};
 ghost use Rattle.cutplan.specs.Masks.{has_rule};
-ghost use Rattle.cutplan.specs.CheckSteps.{are_whole, share_all};
+ghost use Rattle.cutplan.specs.CheckSteps.{share_all};
+ghost use Rattle.cutplan.specs.CompiledColumns.{masks_kept};
 ghost use Rattle.cutplan.specs.declared.mask.TheConstants.{MASK_CAPACITY};
 
-use crate::rule_pairs::{has_rule, partners};
-use dtable::Sequence;
+use crate::compiled_column::CompiledColumn;
+use crate::mask::RuleMask;
+use crate::rule_pairs::partners;
 use std::alloc::{AllocError, Global};
 
 /// Returns the pairs of the first `count` rules that have a mask of each column in common. Rules
@@ -19,12 +20,12 @@ use std::alloc::{AllocError, Global};
 pub fn overlaps(
     alloc: Global,
     count: usize,
-    columns: &[Sequence<[u64; 4]>],
+    columns: &[CompiledColumn],
 ) -> Result<Vec<(usize, usize)>, AllocError>
-    requires few { count ≤ MASK_CAPACITY }
-    requires whole { IsTrue (list_all are_whole columns.now) }
+    requires { count ≤ MASK_CAPACITY }
     ensures { IfOk result (λ found. found.items
-        ≡ filter (λ pair. share_all columns.now (pair.0 - 1) (pair.1 - 1)) (pairs count)) }
+        ≡ filter (λ pair. share_all (masks_kept columns.now) (pair.0 - 1) (pair.1 - 1))
+        (pairs count)) }
 {
     let mut found = Vec::new(alloc);
     'rules: for first in 0..count {
@@ -38,12 +39,11 @@ pub fn overlaps(
 fn push_pairs(
     count: usize,
     first: usize,
-    others: &[u64; 4],
+    others: &RuleMask,
     found: &mut Vec<(usize, usize)>,
 ) -> Result<(), AllocError>
     requires within { first < count }
     requires few { count ≤ MASK_CAPACITY }
-    requires words { length others.now ≡ 4 }
     ensures { OnOk result (found.new.items ≡ found.old.items
         ++ filter (λ pair. has_rule others.now (pair.1 - 1)) (pairs_with count (first + 1))) }
 {
@@ -56,15 +56,14 @@ fn push_pairs(
 fn push_pair(
     first: usize,
     second: usize,
-    others: &[u64; 4],
+    others: &RuleMask,
     found: &mut Vec<(usize, usize)>,
 ) -> Result<(), AllocError>
-    requires within { (first < MASK_CAPACITY) × (second < MASK_CAPACITY) }
-    requires words { length others.now ≡ 4 }
+    requires { (first < MASK_CAPACITY) × (second < MASK_CAPACITY) }
     ensures { OnOk result (found.new.items ≡ found.old.items
         ++ (if has_rule others.now second then (first + 1, second + 1) ∷ [] else [])) }
 {
-    if has_rule(others, second) {
+    if others.has(second) {
         found.push((first + 1, second + 1))?;
     }
     Ok(())

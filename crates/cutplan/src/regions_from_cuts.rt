@@ -22,7 +22,7 @@ pub fn regions_between(
     ensures { IfOk result (λ found. found.items ≡ stretches kind cuts) }
 {
     match kind {
-        Kind::Number | Kind::Day => ranked_rules(alloc, cuts.as_slice()),
+        Kind::Number | Kind::Day => regions_of_order(alloc, cuts.as_slice()),
         Kind::Text => regions_of_names(alloc, cuts.as_slice()),
         Kind::Flag => flags(alloc),
     }
@@ -39,7 +39,7 @@ fn flags(alloc: Global) -> Result<Vec<Region>, AllocError>
 
 // The regions are the values below the first cut, each cut, the values between two adjacent cuts,
 // and the values above the last cut.
-fn ranked_rules(alloc: Global, cuts: &[Value]) -> Result<Vec<Region>, AllocError>
+fn regions_of_order(alloc: Global, cuts: &[Value]) -> Result<Vec<Region>, AllocError>
     ensures { IfOk result (λ found. found.items ≡ regions_of_order cuts.now) }
 {
     let mut found = Vec::new(alloc);
@@ -90,20 +90,12 @@ fn regions_of_names(alloc: Global, names: &[Value]) -> Result<Vec<Region>, Alloc
 }
 
 /// Returns the regions that contain an allowed value.
-pub fn allowed_regions(
-    alloc: Global,
-    values: &Option<Cell>,
-    all: Vec<Region>,
-) -> Result<Sequence<Region>, AllocError>
-    ensures { IfOk result (λ found. found ≡ filter (is_listed values.now) all.items) }
+pub fn allowed_regions(values: &Option<Cell>, all: Vec<Region>) -> Vec<Region>
+    ensures { result.items ≡ filter (is_listed values.now) all.items }
 {
-    let mut found = Sequence::new(alloc);
-    for region in all.as_slice() {
-        if is_listed(values, region) {
-            found.push(region.duplicate(alloc)?)?;
-        }
-    }
-    Ok(found)
+    let mut found = all;
+    found.retain(|region| is_listed(values, region));
+    found
 }
 
 fn is_listed(values: &Option<Cell>, region: &Region) -> bool

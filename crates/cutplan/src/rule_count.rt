@@ -1,11 +1,11 @@
 //! The number of rules in a mask, as far as it matters: most masks have one rule at most, and then
 //! no list of rules is needed.
-ghost use Rattle.std.specs.Prelude.{◌≡◌, ◌≢◌, ◌<◌, ◌≤◌, ◌++◌, ℕ, List, length, false};
+ghost use Rattle.std.specs.Prelude.{◌≡◌, ◌≢◌, ◌<◌, ◌≤◌, ◌++◌, ℕ, List};
 ghost use Rattle.cutplan.specs.Matching.{IsRuleCount, places_set};
-ghost use Rattle.cutplan.specs.Masks.{has_rule, rules_in};
+ghost use Rattle.cutplan.specs.Masks.{rules_in, HasOnlyFirst};
 ghost use Rattle.cutplan.specs.declared.mask.TheConstants.{MASK_CAPACITY};
 
-use crate::mask::MASK_CAPACITY;
+use crate::mask::{MASK_CAPACITY, RuleMask};
 
 /// The number of rules in a mask: none, one, or more.
 pub enum RuleCount {
@@ -17,16 +17,16 @@ pub enum RuleCount {
     More,
 }
 
-/// Returns the number of rules in the mask, which has no rule at the index `count` or after it.
-pub fn rule_count_of(mask: &[u64; 4], count: usize) -> RuleCount
-    requires words { length mask.now ≡ 4 }
+/// Returns the number of rules in the mask, which has only rules among the first `count`.
+pub fn rule_count_of(mask: &RuleMask, count: usize) -> RuleCount
     requires few { count ≤ MASK_CAPACITY }
-    requires within { (place : ℕ) → count ≤ place → place < 256 → has_rule mask.now place ≡ false }
+    requires within { HasOnlyFirst count mask.now }
     ensures { IsRuleCount result (rules_in count mask.now) }
 {
+    let words = mask.words();
     let mut found = RuleCount::None;
     'words: for word in 0..4 {
-        found = with_word(found, mask[word], 64 * word);
+        found = with_word(found, words[word], 64 * word);
     }
     found
 }

@@ -7,8 +7,7 @@ ghost use Rattle.cutplan.specs.Masks.{rules_in};
 ghost use Rattle.cutplan.specs.declared.mask.TheConstants.{MASK_CAPACITY};
 
 use crate::compiled_answers::{CompiledAnswers, answers_of_rules};
-use crate::mask::MASK_CAPACITY;
-use crate::rule_pairs::has_rule;
+use crate::mask::{MASK_CAPACITY, RuleMask};
 use dtable::{Answer, Sequence, Table};
 use std::alloc::{AllocError, Global};
 
@@ -25,7 +24,8 @@ pub fn answers_of_sets(
 {
     let mut sets = Sequence::new(alloc);
     for set in 0..set_count(table.rules.len()) {
-        sets.push(answers_of_mask(alloc, table, &[set as u64, 0, 0, 0])?)?;
+        let mask = RuleMask::from_first_word(set as u64);
+        sets.push(answers_of_mask(alloc, table, &mask)?)?;
     }
     Ok(sets)
 }
@@ -39,10 +39,9 @@ fn set_count(rules: usize) -> usize
 fn answers_of_mask(
     alloc: Global,
     table: &Table,
-    mask: &[u64; 4],
+    mask: &RuleMask,
 ) -> Result<Option<Sequence<Answer>>, AllocError>
     requires few { length table.now.rules ≤ MASK_CAPACITY }
-    requires words { length mask.now ≡ 4 }
     ensures { IfOk result (λ found. found
         ≡ answers_of_rules table.now (rules_in (length table.now.rules) mask.now)) }
 {
@@ -51,14 +50,13 @@ fn answers_of_mask(
 }
 
 // Returns those of the first `count` rules that are in the mask.
-fn rules_of(alloc: Global, mask: &[u64; 4], count: usize) -> Result<Sequence<usize>, AllocError>
+fn rules_of(alloc: Global, mask: &RuleMask, count: usize) -> Result<Sequence<usize>, AllocError>
     requires few { count ≤ MASK_CAPACITY }
-    requires words { length mask.now ≡ 4 }
     ensures { IfOk result (λ rules. rules ≡ rules_in count mask.now) }
 {
     let mut rules = Sequence::new(alloc);
     for rule in 0..count {
-        if has_rule(mask, rule) {
+        if mask.has(rule) {
             rules.push(rule)?;
         }
     }
@@ -71,15 +69,14 @@ fn rules_of(alloc: Global, mask: &[u64; 4], count: usize) -> Result<Sequence<usi
 pub fn find_subset_answers<'k>(
     table: &Table,
     kept: &'k CompiledAnswers,
-    mask: &[u64; 4],
+    mask: &RuleMask,
 ) -> Option<&'k [Answer]>
     requires kept { kept.now ≡ compiled_answers table.now }
-    requires words { length mask.now ≡ 4 }
     ensures { IfSome result (λ answers. (number : ℕ)
         → by_hit table.now.hit number table.now (rules_in (length table.now.rules) mask.now)
         ≡ Ok answers.now) }
 {
-    let set = mask[0] as usize;
+    let set = mask.first_word() as usize;
     let found = kept.sets.as_slice().get(set)?;
     match found {
         Some(answers) => Some(answers.as_slice()),

@@ -1,13 +1,14 @@
 //! The check of one table. Only the regions and masks of that table are in memory.
-ghost use Rattle.std.specs.Prelude.{◌≡◌, ◌≤◌, IfOk, IfErr, OnOk, length};
-ghost use Rattle.cutplan.specs.Check.{cells, gaps, overlaps};
+ghost use Rattle.std.specs.Prelude.{◌≡◌, ◌-◌, ◌<◌, ◌≤◌, ◌^◌, IfOk, IfErr, OnOk, filter, length, not};
+ghost use Rattle.std.specs.List.{list_any};
+ghost use Rattle.cutplan.specs.Check.{cells, covers, meet, overlaps, pairs};
+ghost use Rattle.cutplan.specs.CompiledColumns.{regions_kept, AreMasked};
 ghost use Rattle.cutplan.specs.Numbered.{cell_limit as CELL_LIMIT, IsTableNumber, cells_of, overlaps_of, IsWide};
 ghost use Rattle.cutplan.specs.Places.{ArePlaces, is_gap, is_gap_of, regions_of};
 ghost use Rattle.cutplan.specs.Regions.{table_regions};
 ghost use Rattle.cutplan.specs.declared.mask.TheConstants.{MASK_CAPACITY};
 
-use crate::column::table_regions;
-use crate::compiled_column::masks_of_columns;
+use crate::compiled_column::{CompiledColumn, compiled_columns, regions_of_columns};
 use crate::fault::CheckFault;
 use crate::gap::{gap_places, gaps, is_wide};
 use crate::overlap::overlaps;
@@ -48,10 +49,10 @@ fn check_of(alloc: Global, plan: &Plan, table: &Table) -> Result<TableCheck, All
     ensures gaps { IfOk result (λ check. ArePlaces (cells (table_regions plan.now table.now))
         (is_gap table.now) check.gaps) }
 {
-    let columns = table_regions(alloc, plan, table)?;
-    let masks = masks_of_columns(alloc, plan, table, columns.as_slice())?;
-    let overlaps = overlaps(alloc, table.rules.len(), masks.as_slice())?;
-    let gaps = gap_places(alloc, table, columns.as_slice(), masks.as_slice())?;
+    let compiled = compiled_columns(alloc, plan, table)?;
+    let overlaps = overlaps_of(alloc, table, compiled.as_slice())?;
+    let gaps = gap_places(alloc, table, compiled.as_slice())?;
+    let columns = regions_of_columns(alloc, compiled.as_slice())?;
     Ok(TableCheck {
         overlaps,
         columns,
@@ -59,36 +60,40 @@ fn check_of(alloc: Global, plan: &Plan, table: &Table) -> Result<TableCheck, All
     })
 }
 
-/// Returns the pairs of rules of the table that share an allowed input.
+/// Returns the pairs of rules of the table that share an allowed input. `columns` are the compiled
+/// columns of the table.
 pub fn overlaps_of(
     alloc: Global,
-    plan: &Plan,
     table: &Table,
+    columns: &[CompiledColumn],
 ) -> Result<Vec<(usize, usize)>, AllocError>
-    requires { length table.now.rules ≤ MASK_CAPACITY }
-    ensures { IfOk result (λ found. found.items ≡ overlaps plan.now table.now) }
+    requires few { length table.now.rules ≤ MASK_CAPACITY }
+    requires masks { AreMasked table.now 0 columns.now }
+    ensures { IfOk result (λ found. found.items
+        ≡ filter (λ pair. meet (regions_kept columns.now) table.now (pair.0 - 1) (pair.1 - 1))
+        (pairs (length table.now.rules))) }
 {
-    let columns = table_regions(alloc, plan, table)?;
-    let masks = masks_of_columns(alloc, plan, table, columns.as_slice())?;
-    overlaps(alloc, table.rules.len(), masks.as_slice())
+    overlaps(alloc, table.rules.len(), columns)
 }
 
 /// Returns the cells of the table's check that no rule covers, or `TooWide` if the check has too
-/// many cells.
+/// many cells. `columns` are the compiled columns of the table.
 pub fn gaps_of(
     alloc: Global,
-    plan: &Plan,
     table: &Table,
+    columns: &[CompiledColumn],
 ) -> Result<Vec<Sequence<Region>>, CheckFault>
-    requires { length table.now.rules ≤ MASK_CAPACITY }
-    ensures listed { IfOk result (λ found. found.items ≡ gaps plan.now table.now) }
-    ensures narrow { OnOk result (length (cells (table_regions plan.now table.now)) ≤ CELL_LIMIT) }
-    ensures wide { IfErr result (IsWide (length (cells (table_regions plan.now table.now)))) }
+    requires far { length columns.now < 2 ^ 59 }
+    requires few { length table.now.rules ≤ MASK_CAPACITY }
+    requires masks { AreMasked table.now 0 columns.now }
+    ensures listed { IfOk result (λ found. found.items
+        ≡ filter (λ cell. not (list_any (λ r. covers r.cells cell) table.now.rules))
+        (cells (regions_kept columns.now))) }
+    ensures narrow { OnOk result (length (cells (regions_kept columns.now)) ≤ CELL_LIMIT) }
+    ensures wide { IfErr result (IsWide (length (cells (regions_kept columns.now)))) }
 {
-    let columns = table_regions(alloc, plan, table)?;
-    if is_wide(columns.as_slice()) {
+    if is_wide(columns) {
         return Err(CheckFault::TooWide);
     }
-    let masks = masks_of_columns(alloc, plan, table, columns.as_slice())?;
-    Ok(gaps(alloc, table, columns.as_slice(), masks.as_slice())?)
+    Ok(gaps(alloc, table, columns)?)
 }

@@ -1,17 +1,18 @@
 use Rattle.std.proofs.Common.{◌++◌, ap, arith, length, subst, sym, ◌∙◌}
 use Rattle.std.proofs.lemmas.List.{nil_from_length}
 use Rattle.std.specs.Prelude.{nat_lt}
+use Rattle.cutplan.specs.CompiledColumns.{regions_kept}
 use Rattle.cutplan.specs.Check.{cells}
 use Rattle.cutplan.specs.Masks.{Marks, rules_in}
 use Rattle.cutplan.specs.CheckSteps.{uncovered}
 use Rattle.cutplan.specs.Places.{is_gap, places}
 use Rattle.cutplan.proofs.Places.{gap_places_are}
-use Rattle.cutplan.proofs.Meeting.{first_are, first_rules, table_masks}
+use Rattle.cutplan.proofs.Meeting.{first_are, first_rules}
 use Rattle.cutplan.proofs.gap.gap_places.Goals as goal
 
 pub returns-then-has_no_cell : goal.returns-then-has_no_cell
 returns-then-has_no_cell c =
-    let none = nil_from_length (cells c.args.columns.now) c.if-has_no_cell.ensures.none in
+    let none = nil_from_length (cells (regions_kept c.args.columns.now)) c.if-has_no_cell.ensures.none in
     (c.if-is_wide.ensures.narrow, c.new.ensures.items ∙ ap (places (is_gap c.args.table.now) 0) (sym none))
 
 pub walk_cells-requires : goal.walk_cells-requires
@@ -22,7 +23,7 @@ walk_cells-requires c =
     record {
       far = (let few = c.requires.far in omega (arith, few));
       few = c.requires.few;
-      masks = table_masks t c.args.columns.now c.args.masks.now c.requires.masks;
+      masks = c.requires.masks;
       rules = first_rules (length t.rules) c.first_rules-rules.result marks;
       room = omega (arith, narrow);
     }
@@ -30,7 +31,7 @@ walk_cells-requires c =
 pub returns : goal.returns
 returns c =
     let t = c.args.table.now in
-    let columns = c.args.columns.now in
+    let columns = regions_kept c.args.columns.now in
     let marks = subst (λ n. Marks (λ place. nat_lt place n) c.first_rules-rules.result) c.len.ensures c.first_rules-rules.ensures in
     let rules = first_are (length t.rules) c.first_rules-rules.result c.requires.few marks in (
       c.if-is_wide.ensures.narrow,

@@ -1,18 +1,9 @@
-use Rattle.cutplan.proofs.ByMasks.{column_met, column_words, kept_met}
+use Rattle.cutplan.proofs.ByMasks.{column_met, kept_met}
 use Rattle.cutplan.proofs.TextSearch.{column_others}
 use Rattle.cutplan.proofs.matching.matching_mask.Goals as goal
 
 pub mask_read-requires : goal.mask_read-requires
 mask_read-requires c = column_others c.args.table.now c.args.columns.now c.loop-column.column-index c.column-item.result c.requires.kept c.loop-column-test.true c.column-item.is
-
-pub meet-mask-requires : goal.meet-mask-requires
-meet-mask-requires c = record {
-  words = (
-    c.loop-column.invariant.marks.words,
-    column_words c.args.table.now c.args.columns.now c.args.given.now c.args.earlier.now c.loop-column.column-index c.column-item.result c.in_ok-read.read.now
-        c.requires.kept c.loop-column-test.true c.column-item.is c.in_ok-read.ensures,
-  );
-}
 
 pub loop-column-preserved : goal.loop-column-preserved
 loop-column-preserved c =

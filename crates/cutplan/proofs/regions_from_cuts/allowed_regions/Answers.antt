@@ -1,9 +1,6 @@
-use Rattle.std.proofs.Common.{arith}
-use Rattle.std.proofs.lemmas.Grind.{common_steps}
+use Rattle.std.proofs.Common.{rules}
+use Rattle.std.proofs.lemmas.Fn.{filter_same}
 use Rattle.cutplan.proofs.regions_from_cuts.allowed_regions.Goals as goal
 
-pub loop-region-preserved : goal.loop-region-preserved
-loop-region-preserved c = grind (arith, common_steps)
-
 pub returns : goal.returns
-returns c = grind (arith, common_steps)
+returns c = filter_same _ _ _ (λ x b f' k. search rules) _ _ c.retain.ensures.filtered

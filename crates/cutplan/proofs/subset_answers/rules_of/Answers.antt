@@ -1,6 +1,6 @@
 use Rattle.std.proofs.Common.{sym, ◌∙◌}
 use Rattle.cutplan.proofs.RuleSubsets.{with_rule, without_rule}
-use Rattle.cutplan.proofs.subset_answers.rules_of.Goals.{then-has_rule+in_ok-push, else-has_rule}
+use Rattle.cutplan.proofs.subset_answers.rules_of.Goals.{then-has+in_ok-push, else-has}
 use Rattle.cutplan.proofs.subset_answers.rules_of.Goals as goal
 
 pub loop-rule-preserved : goal.loop-rule-preserved
@@ -8,7 +8,7 @@ loop-rule-preserved c =
     let mask = c.args.mask.now in
     let rule = c.loop-rule.rule in
     let rules = c.loop-rule.rules in
-    elim c.if-has_rule.branch [
-      | then-has_rule+in_ok-push w ↦ w.rules-is ∙ with_rule mask rule rules _ c.loop-rule.invariant (sym c.has_rule.ensures ∙ w.if-has_rule.true) w.in_ok-push.ensures.ok
-      | else-has_rule w ↦ w.rules-is ∙ without_rule mask rule rules c.loop-rule.invariant (sym c.has_rule.ensures ∙ w.if-has_rule.false)
+    elim c.if-has.branch [
+      | then-has+in_ok-push w ↦ w.rules-is ∙ with_rule mask rule rules _ c.loop-rule.invariant (sym c.has.ensures ∙ w.if-has.true) w.in_ok-push.ensures.ok
+      | else-has w ↦ w.rules-is ∙ without_rule mask rule rules c.loop-rule.invariant (sym c.has.ensures ∙ w.if-has.false)
     ]

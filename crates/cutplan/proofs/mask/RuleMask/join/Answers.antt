@@ -1,0 +1,8 @@
+use Rattle.std.proofs.Common.{◌||◌, refl, ap₂, ◌∙◌}
+use Rattle.cutplan.specs.Masks.{has_rule}
+use Rattle.cutplan.proofs.Partners.{joined}
+use Rattle.cutplan.proofs.mask.RuleMask.join.Goals as goal
+
+pub returns-clause-has : goal.returns-clause-has
+returns-clause-has c place within =
+    joined c.self.inside.words c.other.inside.words _ place within refl ∙ ap₂ (λ a b. has_rule a place || has_rule b place) c.self.view_is c.other.view_is

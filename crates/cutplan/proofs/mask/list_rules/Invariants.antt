@@ -1,5 +1,0 @@
-use Rattle.cutplan.proofs.MaskLists.{AreFirstRules}
-use Rattle.cutplan.proofs.mask.list_rules.Given as goal
-
-abbrev pub invariant-words : goal.invariant-words
-invariant-words l = AreFirstRules l.mask l.word l.found.items
