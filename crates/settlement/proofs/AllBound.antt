@@ -20,10 +20,12 @@ use Rattle.dtable.specs.Plan.{PlanParts, IsPlan, keeps_families}
 use Rattle.dtable.proofs.NeededNames.{within_names}
 use Rattle.settlement.specs.declared.acc.Acc.{Acc}
 use Rattle.settlement.specs.declared.claim.Claim.{Claim}
+use Rattle.settlement.specs.declared.workspace.Workspace.{Workspace}
 use Rattle.settlement.specs.Claim.{IsClaimOf}
 use Rattle.settlement.proofs.Binding.{at_each}
 use Rattle.settlement.specs.Bindings.{accumulator_values, after_family, values_from_member, values_given, slot_kinds, slot_of, given_by}
 use Rattle.settlement.specs.Reads.{is_read, places_read, roles_read, HasItsValue, IsLaidOut, Serves}
+use Rattle.settlement.specs.Workspace.{IsWorkspaceOf}
 
 -- the kinds of the accumulators' names are those of their values, with and without a family
 accumulator_kinds :
@@ -128,6 +130,10 @@ ready_where_served plan claim acc given sound is serves place needed =
 -- a claim fits every plan that equals its plan
 pub claim_of_seen : (plan seen : PlanParts) (claim : Claim) → plan ≡ seen → IsClaimOf seen claim → IsClaimOf plan claim
 claim_of_seen plan seen claim same is = subst (λ (p : PlanParts). IsClaimOf p claim) (sym same) is
+
+-- a workspace is that of every plan that equals its plan
+pub workspace_of_seen : (plan seen : PlanParts) (workspace : Workspace) → seen ≡ plan → IsWorkspaceOf seen workspace → IsWorkspaceOf plan workspace
+workspace_of_seen plan seen workspace same is = subst (λ (p : PlanParts). IsWorkspaceOf p workspace) same is
 
 -- slots stay laid out while their kinds do not change
 pub kept_laid_out :

@@ -115,11 +115,8 @@ one_more test n i passes below is =
 
 -- new slots for a plan are laid out
 pub laid_out :
-    (plan seen : PlanParts) (places : List ℕ) (given : List Slot) → seen ≡ plan → IsPlan seen → places ≡ places_read seen → given ≡ empty_slots seen.names
-    → IsLaidOut plan places given
-laid_out plan seen places given same sound read made =
-    subst (λ (p : PlanParts). IsLaidOut p places given) same
-    (record { sound = sound; read = read; kinds = ap slot_kinds made ∙ empty_kinds seen.names })
+    (plan : PlanParts) (places : List ℕ) (given : List Slot) → IsPlan plan → places ≡ places_read plan → given ≡ empty_slots plan.names → IsLaidOut plan places given
+laid_out plan places given sound read made = record { sound = sound; read = read; kinds = ap slot_kinds made ∙ empty_kinds plan.names }
 
 -- the case that the slot already has the text
 pub text_located :

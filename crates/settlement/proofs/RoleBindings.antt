@@ -19,10 +19,6 @@ pub placed_in : (plan : PlanParts) (given : List Slot) (e : Environment) (roles 
 placed_in plan given e roles places made has placed =
     subst (λ tables. ArePlaced tables roles places) (tables_by plan given e (answers_of given [] plan.tables) refl made) (placed roles has)
 
--- places are right for every plan that equals this one
-pub placed_as : (plan seen : PlanParts) (places : RoleBindings) → seen ≡ plan → ArePlacedFor seen places → ArePlacedFor plan places
-placed_as plan seen places same placed = subst (λ (p : PlanParts). ArePlacedFor p places) same placed
-
 -- places that are right for the roles are right for a plan with these roles
 pub placed_for : (plan : PlanParts) (roles : Roles) (places : RoleBindings) → Some roles ≡ plan.roles → ArePlaced plan.tables roles places → ArePlacedFor plan places
 placed_for plan roles places is placed = λ other has. subst (λ (r : Roles). ArePlaced plan.tables r places) (same_Some roles other (is ∙ has)) placed

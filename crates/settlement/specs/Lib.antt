@@ -11,3 +11,4 @@ pub mod Accounts
 pub mod Settlement
 pub mod Opening
 pub mod Determinations
+pub mod Workspace

@@ -1,102 +1,72 @@
 //! The outcome of a claim, and the accumulators after it.
-ghost use Rattle.std.specs.Prelude.{◌≡◌, ℕ, IfOk, IfSome, IsSome};
+ghost use Rattle.std.specs.Prelude.{◌≡◌, IfOk, IfSome, IsSome};
 ghost use Rattle.std.specs.Option.{SomeIff};
 ghost use Rattle.dtable.specs.Environment.{env};
 ghost use Rattle.dtable.specs.Inputs.{IsReady};
 ghost use Rattle.dtable.specs.Plan.{PlanParts};
 ghost use Rattle.settlement.specs.declared.claim.Claim.{Claim};
-ghost use Rattle.settlement.specs.declared.determination.Determination.{Determination as BenefitOf};
 ghost use Rattle.settlement.specs.Accumulators.{after, AreInRange};
-ghost use Rattle.settlement.specs.Determinations.{IsAlike, IsTrueOf, IsCached, determination_of, by_answers};
+ghost use Rattle.settlement.specs.Determinations.{IsAlike, IsTrueOf, determination_of, by_answers};
 ghost use Rattle.settlement.specs.Claim.{IsClaimOf};
-ghost use Rattle.settlement.specs.RoleBindings.{ArePlaced, ArePlacedFor};
+ghost use Rattle.settlement.specs.RoleBindings.{ArePlaced};
 ghost use Rattle.settlement.specs.Settlement.{outcome, by_tables};
+ghost use Rattle.settlement.specs.Workspace.{IsWorkspaceOf};
 
 use crate::acc::Acc;
-use crate::bindings::{bind_inputs, places_read};
 use crate::claim::Claim;
 use crate::cost_sharing::{is_covered, remarks, terms_of};
 use crate::determination::{Determination, are_answered};
 use crate::determination_cache::DeterminationCache;
 use crate::money::Money;
 use crate::outcome::Outcome;
-use crate::remark_table::RemarkTable;
-use crate::role_bindings::{RoleBindings, role_places};
-use dtable::{Env, Inputs, Roles, Sequence, Valuer};
+use crate::workspace::Workspace;
+use dtable::{Env, InputClasses, Inputs, Roles, Valuer};
 use faults::Reason;
 use std::alloc::{AllocError, Global};
 use std::marker::Model;
 
-/// Decides claims by one valuer, one after another. The slots for the values that the plan reads
-/// are made once and set again for each claim.
-pub struct Adjudicator<'v, V: Valuer> {
+/// Decides claims by one valuer, one after another. Claims of one input class are decided by one
+/// value of the tables.
+pub struct Adjudicator<'v, V: InputClasses> {
     valuer: &'v V,
-    places: Sequence<usize>,
-    inputs: Inputs,
-    roles: RoleBindings,
-    remark_table: RemarkTable,
+    workspace: Workspace,
     cache: DeterminationCache,
 }
 
-impl<'v, V: Valuer> Drop for Adjudicator<'v, V> {
+impl<'v, V: InputClasses> Drop for Adjudicator<'v, V> {
     fn drop(self) {
         let Adjudicator {
             valuer: _,
-            places: _,
-            inputs: _,
-            roles: _,
-            remark_table: _,
+            workspace: _,
             cache: _,
         } = self;
     }
 }
 
-impl<'v, V: Valuer> Model for Adjudicator<'v, V> {
+impl<'v, V: InputClasses> Model for Adjudicator<'v, V> {
     ghost use Rattle.dtable.specs.Plan.{PlanParts};
     ghost use Rattle.settlement.specs.Determinations.{IsTrueOf};
-    ghost use Rattle.settlement.specs.RoleBindings.{ArePlacedFor};
-    ghost use Rattle.settlement.specs.Reads.{IsLaidOut};
+    ghost use Rattle.settlement.specs.Workspace.{IsWorkspaceOf};
 
     ghost Value = { PlanParts };
 
     ghost view = { λ a. V.plan_of a.valuer.now };
 
     ghost invariant = { λ a.
-        IsLaidOut (V.plan_of a.valuer.now) a.places a.inputs
-        × ArePlacedFor (V.plan_of a.valuer.now) a.roles
+        IsWorkspaceOf (V.plan_of a.valuer.now) a.workspace
         × IsTrueOf (V.in_class a.valuer.now) (V.plan_of a.valuer.now) a.cache };
 }
 
-impl<'v, V: Valuer> Adjudicator<'v, V> {
+impl<'v, V: InputClasses> Adjudicator<'v, V> {
     /// Prepares to decide claims by the valuer's plan. Contracts see an adjudicator as that plan.
     pub fn new(alloc: Global, valuer: &'v V) -> Result<Adjudicator<'v, V>, AllocError>
         ensures { IfOk result (λ adjudicator. adjudicator ≡ V.plan_of valuer.now) }
     {
         let cache = DeterminationCache::new(alloc)?;
-        Adjudicator::with_cache(alloc, valuer, cache)
-    }
-
-    // The cache must be empty.
-    fn with_cache(
-        alloc: Global,
-        valuer: &'v V,
-        cache: DeterminationCache,
-    ) -> Result<Adjudicator<'v, V>, AllocError>
-        requires { (input_class : ℕ) (determination : BenefitOf)
-            → IsCached cache input_class determination → ⊥ }
-        ensures { IfOk result (λ adjudicator. adjudicator ≡ V.plan_of valuer.now) }
-    {
-        let plan = valuer.plan();
-        let places = places_read(alloc, plan)?;
-        let inputs = Inputs::new(alloc, plan)?;
-        let roles = role_places(plan);
-        let remark_table = RemarkTable::new(alloc, plan, roles.remarks)?;
+        let workspace = Workspace::new(alloc, valuer.plan())?;
         Ok(Adjudicator {
             valuer,
-            places,
-            inputs,
-            roles,
-            remark_table,
+            workspace,
             cache,
         })
     }
@@ -109,13 +79,11 @@ impl<'v, V: Valuer> Adjudicator<'v, V> {
         ensures decided { IfOk result (λ decided. decided ≡ outcome self.old claim.now acc) }
         ensures plan { self.new ≡ self.old }
     {
-        bind_inputs(alloc, &mut self.inputs, self.places.as_slice(), claim, &acc)?;
+        self.workspace.bind(alloc, claim, &acc)?;
         decide_by_class(
             alloc,
             self.valuer,
-            &self.inputs,
-            &self.roles,
-            &self.remark_table,
+            &self.workspace,
             &mut self.cache,
             claim.billed,
             acc,
@@ -135,33 +103,33 @@ pub fn decide<V: Valuer>(
     requires fields { IsClaimOf (V.plan_of valuer.now) claim.now }
     ensures { IfOk result (λ decided. decided ≡ outcome (V.plan_of valuer.now) claim.now acc) }
 {
-    let mut adjudicator = Adjudicator::with_cache(alloc, valuer, DeterminationCache::none(alloc))?;
-    adjudicator.decide(alloc, claim, acc)
+    let mut workspace = Workspace::new(alloc, valuer.plan())?;
+    workspace.bind(alloc, claim, &acc)?;
+    let determination = determination_of(alloc, valuer, &workspace)?;
+    determination.outcome(claim.billed, &acc)
 }
 
-// Returns the outcome of a claim with these inputs. Its determination comes from the cache, or is
-// stored there for other claims of the same input class.
-fn decide_by_class<V: Valuer>(
+// Returns the outcome of the claim to whose values the workspace is set. Its determination comes
+// from the cache, or is stored there for other claims of the same input class.
+fn decide_by_class<V: InputClasses>(
     alloc: Global,
     valuer: &V,
-    inputs: &Inputs,
-    places: &RoleBindings,
-    remark_table: &RemarkTable,
+    workspace: &Workspace,
     cache: &mut DeterminationCache,
     billed: Money,
     acc: Acc,
 ) -> Result<Outcome, AllocError>
     requires roles { IsSome (V.plan_of valuer.now).roles }
-    requires placed { ArePlacedFor (V.plan_of valuer.now) places.now }
-    requires ready { IsReady (V.plan_of valuer.now).tables inputs.now }
+    requires workspace { IsWorkspaceOf (V.plan_of valuer.now) workspace.now }
+    requires ready { IsReady (V.plan_of valuer.now).tables workspace.now.inputs }
     requires true_yet { IsTrueOf (V.in_class valuer.now) (V.plan_of valuer.now) cache.old }
-    ensures decided { let plan = V.plan_of valuer.now in IfOk result (λ decided.
-        decided ≡ by_tables plan.roles billed acc inputs.now (env plan inputs.now)) }
+    ensures decided { let plan = V.plan_of valuer.now in let given = workspace.now.inputs in
+        IfOk result (λ decided. decided ≡ by_tables plan.roles billed acc given (env plan given)) }
     ensures true_still { IsTrueOf (V.in_class valuer.now) (V.plan_of valuer.now) cache.new }
 {
-    let Some(input_class) = class_of(valuer, inputs, cache) else {
+    let Some(input_class) = class_of(valuer, &workspace.inputs, cache) else {
         cache.record_miss();
-        let determination = determination_of(alloc, valuer, inputs, places, remark_table)?;
+        let determination = determination_of(alloc, valuer, workspace)?;
         return determination.outcome(billed, &acc);
     };
     if let Some(determination) = cache.get(input_class) {
@@ -169,7 +137,7 @@ fn decide_by_class<V: Valuer>(
         cache.record_hit();
         return Ok(decided);
     }
-    let determination = determination_of(alloc, valuer, inputs, places, remark_table)?;
+    let determination = determination_of(alloc, valuer, workspace)?;
     let decided = determination.outcome(billed, &acc)?;
     // If a role has the value of an input, two claims of one input class may have different
     // determinations.
@@ -181,7 +149,7 @@ fn decide_by_class<V: Valuer>(
     Ok(decided)
 }
 
-fn class_of<V: Valuer>(valuer: &V, inputs: &Inputs, cache: &DeterminationCache) -> Option<u64>
+fn class_of<V: InputClasses>(valuer: &V, inputs: &Inputs, cache: &DeterminationCache) -> Option<u64>
     ensures inside { IfSome result (V.in_class valuer.now inputs.now) }
     ensures alike { IfSome result
         (IsAlike (V.in_class valuer.now) (V.plan_of valuer.now) inputs.now) }
@@ -193,23 +161,22 @@ fn class_of<V: Valuer>(valuer: &V, inputs: &Inputs, cache: &DeterminationCache) 
     }
 }
 
-// Returns the determination of a claim with these inputs. A fault of the tables pends the claim.
+// Returns the determination of the claim to whose values the workspace is set. A fault of the
+// tables pends the claim.
 fn determination_of<V: Valuer>(
     alloc: Global,
     valuer: &V,
-    inputs: &Inputs,
-    places: &RoleBindings,
-    remark_table: &RemarkTable,
+    workspace: &Workspace,
 ) -> Result<Determination, AllocError>
     requires roles { IsSome (V.plan_of valuer.now).roles }
-    requires placed { ArePlacedFor (V.plan_of valuer.now) places.now }
-    requires ready { IsReady (V.plan_of valuer.now).tables inputs.now }
-    ensures { let plan = V.plan_of valuer.now in IfOk result (λ determination.
-        determination ≡ determination_of plan.roles inputs.now (env plan inputs.now)) }
+    requires workspace { IsWorkspaceOf (V.plan_of valuer.now) workspace.now }
+    requires ready { IsReady (V.plan_of valuer.now).tables workspace.now.inputs }
+    ensures { let plan = V.plan_of valuer.now in let given = workspace.now.inputs in
+        IfOk result (λ found. found ≡ determination_of plan.roles given (env plan given)) }
 {
     let roles = valuer.plan().roles().unwrap();
-    match valuer.value(alloc, inputs) {
-        Ok(env) => by_roles(inputs, &env, roles, places, remark_table),
+    match valuer.value(alloc, &workspace.inputs) {
+        Ok(env) => by_roles(workspace, &env, roles),
         Err(fault) => {
             let reason = Reason::of(fault).ok_or(AllocError)?;
             Ok(Determination::Pended(reason))
@@ -219,17 +186,14 @@ fn determination_of<V: Valuer>(
 
 // Returns the determination of a claim from the answers of the tables. A claim that is not covered
 // is denied, whatever the other roles are.
-fn by_roles(
-    inputs: &Inputs,
-    env: &Env,
-    roles: &Roles,
-    places: &RoleBindings,
-    remark_table: &RemarkTable,
-) -> Result<Determination, AllocError>
-    requires { ArePlaced env.now.tables roles.now places.now }
+fn by_roles(workspace: &Workspace, env: &Env, roles: &Roles) -> Result<Determination, AllocError>
+    requires { ArePlaced env.now.tables roles.now workspace.now.roles }
     ensures { IfOk result (λ determination.
-        determination ≡ by_answers roles.now inputs.now env.now) }
+        determination ≡ by_answers roles.now workspace.now.inputs env.now) }
 {
+    let inputs = &workspace.inputs;
+    let places = &workspace.roles;
+    let remark_table = &workspace.remark_table;
     if !is_covered(inputs, env, roles, places) {
         let remarks = remarks(env, &roles.remarks, places.remarks, remark_table)?;
         return Ok(Determination::Denied(remarks));

@@ -61,17 +61,6 @@ impl Model for DeterminationCache {
 }
 
 impl DeterminationCache {
-    /// Returns a disabled cache, which stays empty.
-    pub fn none(alloc: Global) -> DeterminationCache
-        ensures { (input_class : ℕ) (determination : Determination)
-            → IsCached result input_class determination → ⊥ }
-    {
-        DeterminationCache {
-            slots: Vec::new(alloc),
-            miss_budget: 0,
-        }
-    }
-
     /// Returns an empty cache.
     pub fn new(alloc: Global) -> Result<DeterminationCache, AllocError>
         ensures { IfOk result (λ cache.

@@ -4,8 +4,9 @@
 //! A provider files a `Claim`. An `Acc` has the accumulators of a member and of its family.
 //! `decide` evaluates the plan's tables for both by any `Valuer` of `dtable`, takes the plan's
 //! roles from their answers and returns the `Outcome`: paid with its amounts, denied, or pended
-//! with a `Reason`. `after` returns the accumulators after the outcome. Numbers come from
-//! `fixpoint`, values from `feel_tests`, and reasons from `faults`.
+//! with a `Reason`. An `Adjudicator` decides many claims by a valuer with `InputClasses`, and reuses
+//! what the claims of a class have in common. `after` returns the accumulators after the outcome.
+//! Numbers come from `fixpoint`, values from `feel_tests`, and reasons from `faults`.
 //!
 //! Begin with `specs/Settlement.antt`, which has the rules, one per line; then read `deciding.rt`.
 #![tactic(auto)]
@@ -25,6 +26,7 @@ mod rate;
 mod remark_table;
 mod remarks;
 mod role_bindings;
+mod workspace;
 
 pub use acc::Acc;
 pub use account::{Balance, account_year};

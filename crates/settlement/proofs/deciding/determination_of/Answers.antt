@@ -8,4 +8,4 @@ pub by_roles-requires : goal.by_roles-requires
 by_roles-requires g c =
     let plan = g.V.Valuer.plan_of c.args.valuer.now in
     let has = ap (λ (p : PlanParts). p.roles) (sym c.plan.ensures) ∙ sym c.roles.ensures.roles ∙ ap option_copied c.unwrap-roles.ensures in
-    placed_in plan c.args.inputs.now c.in-Ok.env c.unwrap-roles.result.now c.args.places.now c.in-Ok.ensures.value has c.requires.placed
+    placed_in plan c.args.workspace.now.inputs c.in-Ok.env c.unwrap-roles.result.now c.args.workspace.now.roles c.in-Ok.ensures.value has c.requires.workspace.placed
