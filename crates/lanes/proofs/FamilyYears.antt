@@ -7,16 +7,16 @@ use Rattle.lanes.specs.declared.last_claim_index.LastClaimIndex.{LastClaimIndex}
 use Rattle.lanes.proofs.Keys.{one_key}
 
 -- a member who is its own family has the key of the family and year
-own_house : (key : AccumulatorKey) → key.0 == key.1 ≡ true → family_key key ≡ key
-own_house key same = let e = eqb-true key.0 key.1 same in λ i. (key.0, e i, key.2)
+own_house : (key : AccumulatorKey) → key.family == key.member ≡ true → family_key key ≡ key
+own_house key same = let e = eqb-true key.family key.member same in λ i. record { family = key.family; member = e i; year = key.year }
 
 -- the key of any other member is not that of a family and year
-no_house : (key q : AccumulatorKey) → key.0 == key.1 ≡ false → is_key key (family_key q) ≡ false
+no_house : (key q : AccumulatorKey) → key.family == key.member ≡ false → is_key key (family_key q) ≡ false
 no_house key q other =
     false_from_ne_true (is_key key (family_key q)) (λ same.
     let one = one_key key (family_key q) same in
-    let equal : key.0 ≡ key.1 = ap (λ (k : AccumulatorKey). k.0) one ∙ sym (ap (λ (k : AccumulatorKey). k.1) one) in
-    both_ways (key.0 == key.1) other (eq-eqb key.0 key.1 equal)
+    let equal : key.family ≡ key.member = ap (λ (k : AccumulatorKey). k.family) one ∙ sym (ap (λ (k : AccumulatorKey). k.member) one) in
+    both_ways (key.family == key.member) other (eq-eqb key.family key.member equal)
     )
 
 -- the entry of the family and year is replaced if it has one
@@ -32,7 +32,7 @@ noted_or false was own position = refl
 
 module _ (old new : LastClaimIndex) (key : AccumulatorKey) (position : ℕ) (reported : (q : AccumulatorKey) → last_of_key new.accounts q ≡ cond (is_key key q) (Some position) (last_of_key old.accounts q)) where
   -- the last positions of families after a claim of a member who is its own family
-  pub family_reported : key.0 == key.1 ≡ true
+  pub family_reported : key.family == key.member ≡ true
       → ((q : AccumulatorKey) → last_of_key new.family_years q ≡ cond (is_key key q) (replaced (last_of_key old.family_years key) position) (last_of_key old.family_years q))
       → (q : AccumulatorKey) → family_year_in new (family_key q) ≡ cond (is_key (family_key key) (family_key q)) (Some position) (family_year_in old (family_key q))
   family_reported same reports q =
@@ -41,7 +41,7 @@ module _ (old new : LastClaimIndex) (key : AccumulatorKey) (position : ℕ) (rep
       ∙ ap (λ k. cond (is_key k r) (Some position) (family_year_in old r)) (sym (own_house key same))
 
   -- the last positions of families after a claim of any other member
-  pub member_reported : key.0 == key.1 ≡ false
+  pub member_reported : key.family == key.member ≡ false
       → ((q : AccumulatorKey) → last_of_key new.family_years q ≡ cond (is_key (family_key key) q) (Some position) (last_of_key old.family_years q))
       → (q : AccumulatorKey) → family_year_in new (family_key q) ≡ cond (is_key (family_key key) (family_key q)) (Some position) (family_year_in old (family_key q))
   member_reported other reports q =
@@ -50,11 +50,11 @@ module _ (old new : LastClaimIndex) (key : AccumulatorKey) (position : ℕ) (rep
       (λ i. option_or (reports r i) (here i)) ∙ noted_or (is_key (family_key key) r) (last_of_key old.family_years r) (last_of_key old.accounts r) position
 
   -- the account whose member is the family itself is unchanged
-  pub family_as_it_was : key.0 == key.1 ≡ false → last_of_key new.accounts (family_key key) ≡ last_of_key old.accounts (family_key key)
+  pub family_as_it_was : key.family == key.member ≡ false → last_of_key new.accounts (family_key key) ≡ last_of_key old.accounts (family_key key)
   family_as_it_was other = reported (family_key key) ∙ ap (λ b. cond b (Some position) (last_of_key old.accounts (family_key key))) (no_house key key other)
 
 -- the predecessors of a claim of a member who is its own family
-pub after_family : (old : LastClaimIndex) (key : AccumulatorKey) (own noted family_year : Option ℕ) → key.0 == key.1 ≡ true → own ≡ last_of_key old.accounts key
+pub after_family : (old : LastClaimIndex) (key : AccumulatorKey) (own noted family_year : Option ℕ) → key.family == key.member ≡ true → own ≡ last_of_key old.accounts key
     → noted ≡ last_of_key old.family_years key → family_year ≡ option_or noted own → IsAfter old key (record { own = own; family_year = family_year })
 after_family old key own noted family_year same one two is = record {
   own = one;

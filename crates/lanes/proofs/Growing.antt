@@ -35,11 +35,11 @@ number_stays old new k name grows there = ap (λ w. slice_get w k) grows.followi
 
 -- the key of an account whose member is its own family, and of one whose member is not
 pub key_alone : (names : List (List ℕ)) (lane year : ℕ) (account : Account) → slice_get names lane ≡ Some account.family → account.member ≡ account.family
-    → year ≡ account.year → IsKeyOf names (lane, lane, year) account
+    → year ≡ account.year → IsKeyOf names (record { family = lane; member = lane; year = year }) account
 key_alone names lane year account there same dated = record { family = there; member = there ∙ ap Some (sym same); year = dated }
 
 pub key_apart : (before names : List (List ℕ)) (lane number year : ℕ) (account : Account) → slice_get before lane ≡ Some account.family → Grows before names
-    → slice_get names number ≡ Some account.member → year ≡ account.year → IsKeyOf names (lane, number, year) account
+    → slice_get names number ≡ Some account.member → year ≡ account.year → IsKeyOf names (record { family = lane; member = number; year = year }) account
 key_apart before names lane number year account there grows other dated = record {
   family = number_stays before names lane account.family grows there;
   member = other;

@@ -35,18 +35,18 @@ and-moved : (f y m : Bool) → ((f && y) && m) ≡ ((f && m) && y)
 and-moved true y m = and-turned y m
 and-moved false y m = refl
 
-module _ (names : List (List ℕ)) (distinct : AreDistinct names) (k q : AccumulatorKey) (kf : k.0 < length names) (qf : q.0 < length names) where
+module _ (names : List (List ℕ)) (distinct : AreDistinct names) (k q : AccumulatorKey) (kf : k.family < length names) (qf : q.family < length names) where
   -- two accounts are of one family and year if and only if their keys are
   same-family_year : is_family_year (account_at names k) (account_at names q) ≡ is_key (family_key k) (family_key q)
   same-family_year =
-      ap (λ b. b && (k.2 == q.2)) (same-name names k.0 q.0 distinct kf qf)
-      ∙ ap (λ b. b && (k.2 == q.2)) (and-same (k.0 == q.0))
+      ap (λ b. b && (k.year == q.year)) (same-name names k.family q.family distinct kf qf)
+      ∙ ap (λ b. b && (k.year == q.year)) (and-same (k.family == q.family))
 
   -- two accounts are equal if and only if their keys are
-  same-account : k.1 < length names → q.1 < length names → is_same (account_at names k) (account_at names q) ≡ is_key k q
+  same-account : k.member < length names → q.member < length names → is_same (account_at names k) (account_at names q) ≡ is_key k q
   same-account km qm =
-      (λ i. (same-name names k.0 q.0 distinct kf qf i && (k.2 == q.2)) && same-name names k.1 q.1 distinct km qm i)
-      ∙ and-moved (k.0 == q.0) (k.2 == q.2) (k.1 == q.1)
+      (λ i. (same-name names k.family q.family distinct kf qf i && (k.year == q.year)) && same-name names k.member q.member distinct km qm i)
+      ∙ and-moved (k.family == q.family) (k.year == q.year) (k.member == q.member)
 
 -- the keys of one account have the same family and year
 wider : (f m y : Bool) → ((f && m) && y) ≡ true → ((f && f) && y) ≡ true
@@ -79,9 +79,9 @@ module _ (all : List Slot) (opening : Acc) where
       let left = left-alike slot.phase acc opening (decided refl) ∙ ap (λ o. unwrap_or (left_of_slot o) opening) (sym there) in
       λ i. record { met = (is i).met; oop = (is i).oop; paid = (is i).paid; fmet = (left i).fmet; foop = (left i).foop }
 
-  module _ (names : List (List ℕ)) (distinct : AreDistinct names) (known : AreKnown (length names) (keys_of all)) (key : AccumulatorKey) (family : key.0 < length names) (member : key.1 < length names) where
+  module _ (names : List (List ℕ)) (distinct : AreDistinct names) (known : AreKnown (length names) (keys_of all)) (key : AccumulatorKey) (family : key.family < length names) (member : key.member < length names) where
     fold-back : (n : ℕ) (slots : List Slot) (own family_year : Option ℕ) (acc : Acc) → ((j : ℕ) (s : Slot) → slice_get slots j ≡ Some s → slice_get all (n + j) ≡ Some s)
-        → acc ≡ by-links all opening own family_year → all_decided (get_or names key.0 []) (places_of names slots) ≡ true
+        → acc ≡ by-links all opening own family_year → all_decided (get_or names key.family []) (places_of names slots) ≡ true
         → fold (left_by (account_at names key)) acc (places_of names slots)
         ≡ by-links all opening (last_from n (λ k. is_key k key) (keys_of slots) own) (last_from n (λ k. is_key (family_key k) (family_key key)) (keys_of slots) family_year)
     fold-back n [] own family_year acc at is settled = is
@@ -92,12 +92,12 @@ module _ (all : List Slot) (opening : Acc) where
         let m = known.member n s.key in_keys in
         let same = same-account names distinct s.key key f family m member in
         let shared = same-family_year names distinct s.key key f family in
-        let parts = and_parts (not (is_of (get_or names key.0 []) (place_of names s)) || is_decided s.phase) (all_decided (get_or names key.0 []) (places_of names slots)) settled in
+        let parts = and_parts (not (is_of (get_or names key.family []) (place_of names s)) || is_decided s.phase) (all_decided (get_or names key.family []) (places_of names slots)) settled in
         let decided : is_key (family_key s.key) (family_key key) ≡ true → is_decided s.phase ≡ true = λ h.
-        other-of (is_of (get_or names key.0 []) (place_of names s)) (is_decided s.phase) parts.0
-        ((and_parts (bytes_eq (get_or names s.key.0 []) (get_or names key.0 [])) (s.key.2 == key.2) (shared ∙ h)).0) in
+        other-of (is_of (get_or names key.family []) (place_of names s)) (is_decided s.phase) parts.0
+        ((and_parts (bytes_eq (get_or names s.key.family []) (get_or names key.family [])) (s.key.year == key.year) (shared ∙ h)).0) in
         let step = step-by (is_key s.key key) (is_key (family_key s.key) (family_key key)) n s own family_year acc here is
-        (wider (s.key.0 == key.0) (s.key.1 == key.1) (s.key.2 == key.2)) decided in
+        (wider (s.key.family == key.family) (s.key.member == key.member) (s.key.year == key.year)) decided in
         fold-back (n + 1) slots (cond (is_key s.key key) (Some n) own) (cond (is_key (family_key s.key) (family_key key)) (Some n) family_year)
         (left_by (account_at names key) acc (place_of names s))
         (λ j x there. (let e : n + 1 + j ≡ n + suc j = omega arith in ap (slice_get all) e) ∙ at (suc j) x there)
@@ -118,7 +118,7 @@ map-taken f (suc k) (x ∷ xs) = ap (λ ys. f x ∷ ys) (map-taken f k xs)
 -- the accumulators from the links of a slot are those of its account after the earlier claims
 pub located : (names : List (List ℕ)) (slots : List Slot) (accounts family_years : AccumulatorKey → Option ℕ) (position : ℕ) (slot : Slot) (opening : Acc) → AreDistinct names
     → AreKnown (length names) (keys_of slots) → AreBacked (keys_of slots) (owns_of slots) (houses_of slots) accounts family_years
-    → slice_get slots position ≡ Some slot → all_decided (get_or names slot.key.0 []) (take position (places_of names slots)) ≡ true
+    → slice_get slots position ≡ Some slot → all_decided (get_or names slot.key.family []) (take position (places_of names slots)) ≡ true
     → started opening (left_at slots slot.own) (left_at slots slot.family_year) ≡ present (account_at names slot.key) opening (take position (places_of names slots))
 located names slots accounts family_years position slot opening distinct known backed there settled =
     let key = slot.key in
@@ -136,5 +136,5 @@ located names slots accounts family_years position slot opening distinct known b
     (λ i. by-links slots opening (own i) (family_year i))
     ∙ sym (fold-back slots opening names distinct known key (known.family position key in_keys) (known.member position key in_keys) 0 (take position slots) None None opening
     (λ j s at. (let e : 0 + j ≡ j = omega arith in ap (slice_get slots) e) ∙ front-has position slots j s at) refl
-    (ap (all_decided (get_or names key.0 [])) places ∙ settled))
+    (ap (all_decided (get_or names key.family [])) places ∙ settled))
     ∙ ap (present (account_at names key) opening) places

@@ -61,14 +61,14 @@ kept-as names old new h same = record {
 }
 
 -- the places of slots do not change if names are added
-places-more : (names more : List (List ℕ)) (slots : List Slot) → ((k : ℕ) (q : AccumulatorKey) → slice_get (keys_of slots) k ≡ Some q → q.0 < length names)
-    → ((k : ℕ) (q : AccumulatorKey) → slice_get (keys_of slots) k ≡ Some q → q.1 < length names) → places_of (names ++ more) slots ≡ places_of names slots
+places-more : (names more : List (List ℕ)) (slots : List Slot) → ((k : ℕ) (q : AccumulatorKey) → slice_get (keys_of slots) k ≡ Some q → q.family < length names)
+    → ((k : ℕ) (q : AccumulatorKey) → slice_get (keys_of slots) k ≡ Some q → q.member < length names) → places_of (names ++ more) slots ≡ places_of names slots
 places-more names more [] family member = refl
 places-more names more (s ∷ ss) family member =
-    let f : get_or (names ++ more) s.key.0 [] ≡ get_or names s.key.0 [] = get_or_append_left names more [] s.key.0 (family 0 s.key refl) in
-    let m : get_or (names ++ more) s.key.1 [] ≡ get_or names s.key.1 [] = get_or_append_left names more [] s.key.1 (member 0 s.key refl) in
+    let f : get_or (names ++ more) s.key.family [] ≡ get_or names s.key.family [] = get_or_append_left names more [] s.key.family (family 0 s.key refl) in
+    let m : get_or (names ++ more) s.key.member [] ≡ get_or names s.key.member [] = get_or_append_left names more [] s.key.member (member 0 s.key refl) in
     let rest = places-more names more ss (λ k q there. family (suc k) q there) (λ k q there. member (suc k) q there) in
-    λ i. record { account = record { family = f i; member = m i; year = s.key.2 }; phase = s.phase } ∷ rest i
+    λ i. record { account = record { family = f i; member = m i; year = s.key.year }; phase = s.phase } ∷ rest i
 
 pub grown-places : (names new : List (List ℕ)) (queues : FamilyQueues) → AreKept names queues → Grows names new → places_of new queues.slots.items ≡ places_of names queues.slots.items
 grown-places names new queues h grows =
@@ -127,7 +127,7 @@ taken-kept names old new picked h t =
     let after = record t.slot { phase = InWork } in
     let same = taken-places names old new picked t in
     let keys = ap keys_of t.slots ∙ same-set (λ (x : Slot). x.key) slots k t.slot after t.there refl in
-    let lanes = ap lanes_of t.slots ∙ same-set (λ (x : Slot). x.key.0) slots k t.slot after t.there refl in
+    let lanes = ap lanes_of t.slots ∙ same-set (λ (x : Slot). x.key.family) slots k t.slot after t.there refl in
     let nexts = ap nexts_of t.slots ∙ same-set (λ (x : Slot). x.next) slots k t.slot after t.there refl in
     let owns = ap owns_of t.slots ∙ same-set (λ (x : Slot). x.own) slots k t.slot after t.there refl in
     let houses = ap houses_of t.slots ∙ same-set (λ (x : Slot). x.family_year) slots k t.slot after t.there refl in
@@ -173,11 +173,11 @@ next-waits : (names : List (List ℕ)) (queues : FamilyQueues) (position next : 
 next-waits names queues position next slot h there work link =
     let slots = queues.slots.items in
     let places = places_of names slots in
-    let follows : IsNext (lanes_of slots) slot.key.0 position next =
-    h.linked.followed position slot.key.0 (Some next) (lane-at slots position slot there) (next-at slots position slot there ∙ ap Some link) in
-    let (after, at, lane) = slot-in slots next slot.key.0 follows.there in
-    let m = get_or names after.key.0 [] in
-    let mine = alike names after.key.0 slot.key.0 (sym lane) in
+    let follows : IsNext (lanes_of slots) slot.key.family position next =
+    h.linked.followed position slot.key.family (Some next) (lane-at slots position slot there) (next-at slots position slot there ∙ ap Some link) in
+    let (after, at, lane) = slot-in slots next slot.key.family follows.there in
+    let m = get_or names after.key.family [] in
+    let mine = alike names after.key.family slot.key.family (sym lane) in
     let undecided = held places position next (place_of names slot) m (place-at names slots position slot there) mine (ap is_decided work) follows.following in
     let waits = h.in_turn.waits next (place_of names after) (place-at names slots next after at) in
     let following = follows.following in
@@ -190,7 +190,7 @@ decided-by : (names : List (List ℕ)) (old new : FamilyQueues) (position : ℕ)
 decided-by names old new position left slot None h there work link d =
     let slots = old.slots.items in
     let places = places_of names slots in
-    let lane = slot.key.0 in
+    let lane = slot.key.family in
     let in_lane = lane-at slots position slot there in
     let alone : (j : ℕ) (q : Place) → position < j → slice_get places j ≡ Some q → is_of (get_or names lane []) q ≡ false = λ j q following at.
     none-of names slots lane j q h.distinct h.known (h.known.family position slot.key (key-at slots position slot there))
@@ -200,12 +200,12 @@ decided-by names old new position left slot None h there work link d =
 decided-by names old new position left slot (Some next) h there work link d =
     let slots = old.slots.items in
     let places = places_of names slots in
-    let lane = slot.key.0 in
+    let lane = slot.key.family in
     let in_lane = lane-at slots position slot there in
     let follows : IsNext (lanes_of slots) lane position next =
     subst (IsFollowedBy (lanes_of slots) lane position) link (h.linked.followed position lane slot.next in_lane (next-at slots position slot there)) in
     let (after, at, waiting, apart) = next-waits names old position next slot h there work link in
-    let same : after.key.0 ≡ lane = same_Some after.key.0 lane (sym (lane-at slots next after at) ∙ follows.there) in
+    let same : after.key.family ≡ lane = same_Some after.key.family lane (sym (lane-at slots next after at) ∙ follows.there) in
     let decided = record slot { phase = Decided left } in
     let still = get-set-other slots position next decided apart ∙ at in
     let between : (j : ℕ) (q : Place) → position < j → j < next → slice_get places j ≡ Some q → is_of (get_or names lane []) q ≡ false = λ j q following front is.
@@ -214,7 +214,7 @@ decided-by names old new position left slot (Some next) h there work link d =
     ∙ places-with names (slice_set slots position decided) next after (ready_at after.phase) still
     ∙ ap (λ xs. with_phase xs next (ready_at after.phase)) (places-with names slots position slot (Decided left) there)
     ∙ sym (decision-next places position next left (place_of names slot) (place_of names after) (place-at names slots position slot there)
-    (place-at names slots next after at) follows.following (alike names lane after.key.0 same) between)
+    (place-at names slots next after at) follows.following (alike names lane after.key.family same) between)
 
 pub decided-places : (names : List (List ℕ)) (old new : FamilyQueues) (position : ℕ) (left : Acc) (slot : Slot) → AreKept names old → SlotAt old position slot
     → slot.phase ≡ InWork → DecidesSlot old new position slot left slot.next
@@ -285,7 +285,7 @@ decided-kept names old new position left slot h there work found d =
     let places = places_of names slots in
     let same = decided-places names old new position left slot h there work d in
     let keys = decided-same (λ (x : Slot). x.key) (λ s p. refl) names old new position left slot slot.next h there work refl d in
-    let lanes = decided-same (λ (x : Slot). x.key.0) (λ s p. refl) names old new position left slot slot.next h there work refl d in
+    let lanes = decided-same (λ (x : Slot). x.key.family) (λ s p. refl) names old new position left slot slot.next h there work refl d in
     let nexts = decided-same (λ (x : Slot). x.next) (λ s p. refl) names old new position left slot slot.next h there work refl d in
     let owns = decided-same (λ (x : Slot). x.own) (λ s p. refl) names old new position left slot slot.next h there work refl d in
     let houses = decided-same (λ (x : Slot). x.family_year) (λ s p. refl) names old new position left slot slot.next h there work refl d in
@@ -304,7 +304,7 @@ decided-kept names old new position left slot h there work found d =
 pub record Adds (names : List (List ℕ)) (old new : FamilyQueues) (key : AccumulatorKey) (claim : Claim) (year : ℕ) : Type 0 where
   pub kept : AreKept names old
   pub key_is : IsKeyOf names key (account_in year claim)
-  pub slots : AddsSlot old new key claim (last_of_number old.ends key.0)
+  pub slots : AddsSlot old new key claim (last_of_number old.ends key.family)
   pub back : LinksBack old new key (vec_len old.slots)
 
 -- the slot of the claim is appended; the earlier slots are the same except for the link of the last
@@ -318,12 +318,12 @@ record IsAfter (names : List (List ℕ)) (old new : FamilyQueues) (key : Accumul
   pub places : places_of names front ≡ places_of names old.slots.items
   pub ready : new.ready.items ≡ queued old.ready.items (length old.slots.items) phase
   pub phase_is : next_phase (places_of names old.slots.items) claim ≡ phase
-  pub linked : AreLinked (lanes_of old.slots.items ++ key.0 ∷ []) (nexts_of front ++ None ∷ []) (last_of_number new.ends)
+  pub linked : AreLinked (lanes_of old.slots.items ++ key.family ∷ []) (nexts_of front ++ None ∷ []) (last_of_number new.ends)
 
-known-more : (count : ℕ) (keys : List AccumulatorKey) (key : AccumulatorKey) → AreKnown count keys → key.0 < count → key.1 < count → AreKnown count (keys ++ key ∷ [])
+known-more : (count : ℕ) (keys : List AccumulatorKey) (key : AccumulatorKey) → AreKnown count keys → key.family < count → key.member < count → AreKnown count (keys ++ key ∷ [])
 known-more count keys key h f m = record {
-  family = λ k q there. elim (get-push keys key q k there) [ inl before ↦ h.family k q before | inr last ↦ subst (λ (x : AccumulatorKey). x.0 < count) last.1 f ];
-  member = λ k q there. elim (get-push keys key q k there) [ inl before ↦ h.member k q before | inr last ↦ subst (λ (x : AccumulatorKey). x.1 < count) last.1 m ];
+  family = λ k q there. elim (get-push keys key q k there) [ inl before ↦ h.family k q before | inr last ↦ subst (λ (x : AccumulatorKey). x.family < count) last.1 f ];
+  member = λ k q there. elim (get-push keys key q k there) [ inl before ↦ h.member k q before | inr last ↦ subst (λ (x : AccumulatorKey). x.member < count) last.1 m ];
 }
 
 module _ (names : List (List ℕ)) (old new : FamilyQueues) (key : AccumulatorKey) (claim : Claim) (year : ℕ) (a : Adds names old new key claim year) where
@@ -333,22 +333,22 @@ module _ (names : List (List ℕ)) (old new : FamilyQueues) (key : AccumulatorKe
   many : vec_len old.slots ≡ length slots
   many = old.slots.ok.0
 
-  family-is : get_or names key.0 [] ≡ family_of claim
-  family-is = get_or_from_slice_get names key.0 (family_of claim) [] a.key_is.family
+  family-is : get_or names key.family [] ≡ family_of claim
+  family-is = get_or_from_slice_get names key.family (family_of claim) [] a.key_is.family
 
-  family-within : key.0 < length names
-  family-within = slice_get_within names key.0 (family_of claim) a.key_is.family
+  family-within : key.family < length names
+  family-within = slice_get_within names key.family (family_of claim) a.key_is.family
 
-  ends-reported : (l : ℕ) → last_of_number new.ends l ≡ cond (key.0 == l) (Some (length (lanes_of slots))) (last_of_number old.ends l)
-  ends-reported l = a.back.ends l ∙ ap (λ n. cond (key.0 == l) (Some n) (last_of_number old.ends l)) (many ∙ sym (length-map slots (λ (x : Slot). x.key.0)))
+  ends-reported : (l : ℕ) → last_of_number new.ends l ≡ cond (key.family == l) (Some (length (lanes_of slots))) (last_of_number old.ends l)
+  ends-reported l = a.back.ends l ∙ ap (λ n. cond (key.family == l) (Some n) (last_of_number old.ends l)) (many ∙ sym (length-map slots (λ (x : Slot). x.key.family)))
 
   nexts-many : length (nexts_of slots) ≡ length (lanes_of slots)
-  nexts-many = length-map slots (λ (x : Slot). x.next) ∙ sym (length-map slots (λ (x : Slot). x.key.0))
+  nexts-many = length-map slots (λ (x : Slot). x.next) ∙ sym (length-map slots (λ (x : Slot). x.key.family))
 
   -- the case of the first claim of a lane
-  first-following : last_of_number old.ends key.0 ≡ None → AddsSlot old new key claim None → IsAfter names old new key claim slots (Ready claim)
+  first-following : last_of_number old.ends key.family ≡ None → AddsSlot old new key claim None → IsAfter names old new key claim slots (Ready claim)
   first-following none added =
-      let empty : (k : ℕ) → ¬ (slice_get (lanes_of slots) k ≡ Some key.0) = subst (IsEnd (lanes_of slots) key.0) none (a.kept.linked.ended key.0) in
+      let empty : (k : ℕ) → ¬ (slice_get (lanes_of slots) k ≡ Some key.family) = subst (IsEnd (lanes_of slots) key.family) none (a.kept.linked.ended key.family) in
       record {
         slots = added.0;
         keys = refl;
@@ -358,42 +358,42 @@ module _ (names : List (List ℕ)) (old new : FamilyQueues) (key : AccumulatorKe
         places = refl;
         ready = added.1 ∙ ap (λ n. queued old.ready.items n (Ready claim)) many;
         phase_is = phase-first (places_of names slots) claim (λ k p there.
-            ap (λ m. is_of m p) (sym family-is) ∙ none-of names slots key.0 k p a.kept.distinct a.kept.known family-within (empty k) there);
-        linked = linked-first (lanes_of slots) (nexts_of slots) (last_of_number old.ends) (last_of_number new.ends) key.0 a.kept.linked nexts-many none ends-reported;
+            ap (λ m. is_of m p) (sym family-is) ∙ none-of names slots key.family k p a.kept.distinct a.kept.known family-within (empty k) there);
+        linked = linked-first (lanes_of slots) (nexts_of slots) (last_of_number old.ends) (last_of_number new.ends) key.family a.kept.linked nexts-many none ends-reported;
       }
 
   -- the case of a claim after the last one of its lane
-  next-following : (last : ℕ) (before : Slot) → last_of_number old.ends key.0 ≡ Some last → slice_get slots last ≡ Some before → before.key.0 ≡ key.0
+  next-following : (last : ℕ) (before : Slot) → last_of_number old.ends key.family ≡ Some last → slice_get slots last ≡ Some before → before.key.family ≡ key.family
       → AddsSlot old new key claim (Some last)
       → IsAfter names old new key claim (slice_set slots last (record before { next = Some (length slots) })) (phase_after before.phase claim)
   next-following last before is at same added =
       let linked = record before { next = Some (length slots) } in
-      let is_last : IsLast (lanes_of slots) key.0 last = subst (IsEnd (lanes_of slots) key.0) is (a.kept.linked.ended key.0) in
+      let is_last : IsLast (lanes_of slots) key.family last = subst (IsEnd (lanes_of slots) key.family) is (a.kept.linked.ended key.family) in
       let nexts : nexts_of (slice_set slots last linked) ≡ slice_set (nexts_of slots) last (Some (length (lanes_of slots))) =
-      map-set (λ (x : Slot). x.next) slots last linked ∙ ap (λ n. slice_set (nexts_of slots) last (Some n)) (sym (length-map slots (λ (x : Slot). x.key.0))) in
+      map-set (λ (x : Slot). x.next) slots last linked ∙ ap (λ n. slice_set (nexts_of slots) last (Some n)) (sym (length-map slots (λ (x : Slot). x.key.family))) in
       let reported = added before at in
       let mine : is_of (family_of claim) (place_of names before) ≡ true =
-      ap (λ m. bytes_eq (get_or names before.key.0 []) m) (sym family-is) ∙ alike names key.0 before.key.0 same in
+      ap (λ m. bytes_eq (get_or names before.key.family []) m) (sym family-is) ∙ alike names key.family before.key.family same in
       record {
         slots = reported.0 ∙ ap (λ n. slice_set slots last (record before { next = Some n }) ++ slot_after old key (phase_after before.phase claim) ∷ []) many;
         keys = same-set (λ (x : Slot). x.key) slots last before linked at refl;
-        lanes = same-set (λ (x : Slot). x.key.0) slots last before linked at refl;
+        lanes = same-set (λ (x : Slot). x.key.family) slots last before linked at refl;
         owns = same-set (λ (x : Slot). x.own) slots last before linked at refl;
         houses = same-set (λ (x : Slot). x.family_year) slots last before linked at refl;
         places = same-set (place_of names) slots last before linked at refl;
         ready = reported.1 ∙ ap (λ n. queued old.ready.items n (phase_after before.phase claim)) many;
         phase_is = phase-next (places_of names slots) last (place_of names before) claim a.kept.in_turn (place-at names slots last before at) mine
-            (λ j q following there. ap (λ m. is_of m q) (sym family-is) ∙ none-of names slots key.0 j q a.kept.distinct a.kept.known family-within (is_last.last j following) there);
-        linked = rw nexts (linked-follow (lanes_of slots) (nexts_of slots) (last_of_number old.ends) (last_of_number new.ends) key.0 last a.kept.linked nexts-many is ends-reported);
+            (λ j q following there. ap (λ m. is_of m q) (sym family-is) ∙ none-of names slots key.family j q a.kept.distinct a.kept.known family-within (is_last.last j following) there);
+        linked = rw nexts (linked-follow (lanes_of slots) (nexts_of slots) (last_of_number old.ends) (last_of_number new.ends) key.family last a.kept.linked nexts-many is ends-reported);
       }
 
   -- both cases
-  following-by : (e : Option ℕ) → last_of_number old.ends key.0 ≡ e → AddsSlot old new key claim e
+  following-by : (e : Option ℕ) → last_of_number old.ends key.family ≡ e → AddsSlot old new key claim e
       → (front : List Slot) × (phase : Phase) × IsAfter names old new key claim front phase
   following-by None is added = (slots, Ready claim, first-following is added)
   following-by (Some last) is added =
-      let is_last : IsLast (lanes_of slots) key.0 last = subst (IsEnd (lanes_of slots) key.0) is (a.kept.linked.ended key.0) in
-      let (before, at, same) = slot-in slots last key.0 is_last.there in
+      let is_last : IsLast (lanes_of slots) key.family last = subst (IsEnd (lanes_of slots) key.family) is (a.kept.linked.ended key.family) in
+      let (before, at, same) = slot-in slots last key.family is_last.there in
       (slice_set slots last (record before { next = Some (length slots) }), phase_after before.phase claim, next-following last before is at same added)
 
   module _ (front : List Slot) (phase : Phase) (b : IsAfter names old new key claim front phase) where
@@ -402,7 +402,7 @@ module _ (names : List (List ℕ)) (old new : FamilyQueues) (key : AccumulatorKe
 
     following-place : place_of names slot ≡ next_place (places_of names slots) claim year
     following-place =
-        let member = get_or_from_slice_get names key.1 claim.member [] a.key_is.member in
+        let member = get_or_from_slice_get names key.member claim.member [] a.key_is.member in
         λ i. record { account = record { family = family-is i; member = member i; year = a.key_is.year i }; phase = sym b.phase_is i }
 
     following-places : places_of names new.slots.items ≡ places_of names slots ++ next_place (places_of names slots) claim year ∷ []
@@ -415,8 +415,8 @@ module _ (names : List (List ℕ)) (old new : FamilyQueues) (key : AccumulatorKe
         let places = places_of names slots in
         let keys : keys_of new.slots.items ≡ keys_of slots ++ key ∷ [] =
         ap keys_of b.slots ∙ map_push (λ (x : Slot). x.key) front slot ∙ ap (λ xs. xs ++ key ∷ []) b.keys in
-        let lanes : lanes_of new.slots.items ≡ lanes_of slots ++ key.0 ∷ [] =
-        ap lanes_of b.slots ∙ map_push (λ (x : Slot). x.key.0) front slot ∙ ap (λ xs. xs ++ key.0 ∷ []) b.lanes in
+        let lanes : lanes_of new.slots.items ≡ lanes_of slots ++ key.family ∷ [] =
+        ap lanes_of b.slots ∙ map_push (λ (x : Slot). x.key.family) front slot ∙ ap (λ xs. xs ++ key.family ∷ []) b.lanes in
         let nexts : nexts_of new.slots.items ≡ nexts_of front ++ None ∷ [] = ap nexts_of b.slots ∙ map_push (λ (x : Slot). x.next) front slot in
         let owns : owns_of new.slots.items ≡ owns_of slots ++ last_of_key old.lasts.accounts key ∷ [] =
         ap owns_of b.slots ∙ map_push (λ (x : Slot). x.own) front slot ∙ ap (λ xs. xs ++ last_of_key old.lasts.accounts key ∷ []) b.owns in
@@ -431,7 +431,7 @@ module _ (names : List (List ℕ)) (old new : FamilyQueues) (key : AccumulatorKe
         let queue = queue-add places old.ready.items (place_of names slot) (length slots) (sym (length-map slots (place_of names))) a.kept.queued in
         record {
           distinct = a.kept.distinct;
-          known = rw keys (known-more (length names) (keys_of slots) key a.kept.known family-within (slice_get_within names key.1 claim.member a.key_is.member));
+          known = rw keys (known-more (length names) (keys_of slots) key a.kept.known family-within (slice_get_within names key.member claim.member a.key_is.member));
           linked = linked-as _ _ _ _ (last_of_number new.ends) (last_of_number new.ends) lanes nexts (λ l. refl) b.linked;
           backed = backed-as _ _ _ _ _ _ (last_of_key new.lasts.accounts) (last_of_key new.lasts.accounts) (family_year_in new.lasts) (family_year_in new.lasts)
               keys owns houses (λ q. refl) (λ q. refl) backed;
@@ -440,10 +440,10 @@ module _ (names : List (List ℕ)) (old new : FamilyQueues) (key : AccumulatorKe
         }
 
   pub added-kept : AreKept names new
-  added-kept = let (front, phase, b) = following-by (last_of_number old.ends key.0) refl a.slots in following-kept front phase b
+  added-kept = let (front, phase, b) = following-by (last_of_number old.ends key.family) refl a.slots in following-kept front phase b
 
   pub added-places : places_of names new.slots.items ≡ places_of names slots ++ next_place (places_of names slots) claim year ∷ []
-  added-places = let (front, phase, b) = following-by (last_of_number old.ends key.0) refl a.slots in following-places front phase b
+  added-places = let (front, phase, b) = following-by (last_of_number old.ends key.family) refl a.slots in following-places front phase b
 
 -- the slot of a taken claim
 work-at : (names : List (List ℕ)) (slots : List Slot) (position : ℕ) → IsInWork (places_of names slots) position
@@ -485,7 +485,7 @@ end-within names queues lane last h is =
     let slots = queues.slots in
     let is_last : IsLast (lanes_of slots.items) lane last = subst (IsEnd (lanes_of slots.items) lane) is (h.linked.ended lane) in
     let within = slice_get_within (lanes_of slots.items) last lane is_last.there in
-    omega (arith, within, length-map slots.items (λ (x : Slot). x.key.0), slots.ok.0)
+    omega (arith, within, length-map slots.items (λ (x : Slot). x.key.family), slots.ok.0)
 
 -- the postcondition of a call that did not fail
 pub ok-holds : {T E : Type 0} (r : Result T E) (P : Type 0) → is_err r ≡ false → OnOk r P → P
@@ -502,13 +502,13 @@ prepared-places names more old new h grows same = ap (places_of more) same.slots
 
 -- the queues and the places after a call of `add`
 pub add-kept : {T E : Type 0} (names : List (List ℕ)) (old new : FamilyQueues) (key : AccumulatorKey) (claim : Claim) (year : ℕ) (r : Result T E) → AreKept names old
-    → IsKeyOf names key (account_in year claim) → OnOk r (AddsSlot old new key claim (last_of_number old.ends key.0)) → OnOk r (LinksBack old new key (vec_len old.slots))
+    → IsKeyOf names key (account_in year claim) → OnOk r (AddsSlot old new key claim (last_of_number old.ends key.family)) → OnOk r (LinksBack old new key (vec_len old.slots))
     → OnErr r (AreAs old new) → AreKept names new
 add-kept names old new key claim year (Ok x) h is added back refused = added-kept names old new key claim year (record { kept = h; key_is = is; slots = added; back = back })
 add-kept names old new key claim year (Err e) h is added back refused = kept-as names old new h refused
 
 pub add-places : {T E : Type 0} (names : List (List ℕ)) (old new : FamilyQueues) (key : AccumulatorKey) (claim : Claim) (year : ℕ) (r : Result T E) (places : List Place) → AreKept names old
-    → places_of names old.slots.items ≡ places → IsKeyOf names key (account_in year claim) → OnOk r (AddsSlot old new key claim (last_of_number old.ends key.0))
+    → places_of names old.slots.items ≡ places → IsKeyOf names key (account_in year claim) → OnOk r (AddsSlot old new key claim (last_of_number old.ends key.family))
     → OnOk r (LinksBack old new key (vec_len old.slots)) → IfOk r (λ _. places_of names new.slots.items ≡ places ++ next_place places claim year ∷ [])
 add-places names old new key claim year (Ok x) places h before is added back =
     added-places names old new key claim year (record { kept = h; key_is = is; slots = added; back = back })

@@ -25,8 +25,8 @@ slot-of names (s ∷ ss) zero p there = (s, refl, same_Some _ _ there)
 slot-of names (s ∷ ss) (suc k) p there = slot-of names ss k p there
 
 -- the lane of a slot
-pub lane-at : (slots : List Slot) (k : ℕ) (slot : Slot) → slice_get slots k ≡ Some slot → slice_get (lanes_of slots) k ≡ Some slot.key.0
-lane-at slots k slot there = slice_get-map (λ (x : Slot). x.key.0) slots k ∙ ap (option_map (λ (x : Slot). x.key.0)) there
+pub lane-at : (slots : List Slot) (k : ℕ) (slot : Slot) → slice_get slots k ≡ Some slot → slice_get (lanes_of slots) k ≡ Some slot.key.family
+lane-at slots k slot there = slice_get-map (λ (x : Slot). x.key.family) slots k ∙ ap (option_map (λ (x : Slot). x.key.family)) there
 
 -- the account of a slot
 pub key-at : (slots : List Slot) (k : ℕ) (slot : Slot) → slice_get slots k ≡ Some slot → slice_get (keys_of slots) k ≡ Some slot.key
@@ -36,7 +36,7 @@ pub next-at : (slots : List Slot) (k : ℕ) (slot : Slot) → slice_get slots k 
 next-at slots k slot there = slice_get-map (λ (x : Slot). x.next) slots k ∙ ap (option_map (λ (x : Slot). x.next)) there
 
 -- the slot at a position of a lane
-pub slot-in : (slots : List Slot) (k lane : ℕ) → slice_get (lanes_of slots) k ≡ Some lane → (slot : Slot) × (slice_get slots k ≡ Some slot) × (slot.key.0 ≡ lane)
+pub slot-in : (slots : List Slot) (k lane : ℕ) → slice_get (lanes_of slots) k ≡ Some lane → (slot : Slot) × (slice_get slots k ≡ Some slot) × (slot.key.family ≡ lane)
 slot-in [] k lane there = absurd (none-some lane there)
 slot-in (s ∷ ss) zero lane there = (s, refl, same_Some _ _ there)
 slot-in (s ∷ ss) (suc k) lane there = slot-in ss k lane there
@@ -78,7 +78,7 @@ pub none-of : (names : List (List ℕ)) (slots : List Slot) (lane k : ℕ) (p : 
 none-of names slots lane k p distinct known within none there =
     let (slot, at, is) = slot-of names slots k p there in
     let here = known.family k slot.key (key-at slots k slot at) in
-    let differ = apart names lane slot.key.0 distinct within here (λ same. none (lane-at slots k slot at ∙ ap Some same)) in
+    let differ = apart names lane slot.key.family distinct within here (λ same. none (lane-at slots k slot at ∙ ap Some same)) in
     ap (λ (x : Place). bytes_eq x.account.family (get_or names lane [])) (sym is) ∙ differ
 
 -- a family has an earlier claim that is not decided

@@ -16,13 +16,13 @@ use Rattle.lanes.specs.declared.slot.Slot.{Slot}
 
 -- the account of a key
 abbrev pub account_at : List (List ℕ) → AccumulatorKey → Account
-account_at names key = record { family = get_or names key.0 []; member = get_or names key.1 []; year = key.2 }
+account_at names key = record { family = get_or names key.family []; member = get_or names key.member []; year = key.year }
 
 -- the key is that of the account
 pub record IsKeyOf (names : List (List ℕ)) (key : AccumulatorKey) (account : Account) : Type 0 where
-  pub family : slice_get names key.0 ≡ Some account.family
-  pub member : slice_get names key.1 ≡ Some account.member
-  pub year : key.2 ≡ account.year
+  pub family : slice_get names key.family ≡ Some account.family
+  pub member : slice_get names key.member ≡ Some account.member
+  pub year : key.year ≡ account.year
 
 -- the place of a slot's claim, by the list of names
 abbrev pub place_of : List (List ℕ) → Slot → Place
@@ -86,7 +86,7 @@ AddsSlot old new key claim (Some last) = (before : Slot) → SlotAt old last bef
 
 -- the position is now the last of its lane, of its account and of its family and year
 pub record LinksBack (old new : FamilyQueues) (key : AccumulatorKey) (position : ℕ) : Type 0 where
-  pub ends : (lane : ℕ) → last_of_number new.ends lane ≡ cond (key.0 == lane) (Some position) (last_of_number old.ends lane)
+  pub ends : (lane : ℕ) → last_of_number new.ends lane ≡ cond (key.family == lane) (Some position) (last_of_number old.ends lane)
   pub accounts : (q : AccumulatorKey) → last_of_key new.lasts.accounts q ≡ cond (is_key key q) (Some position) (last_of_key old.lasts.accounts q)
   pub family_years : (q : AccumulatorKey) → family_year_in new.lasts (family_key q) ≡ cond (is_key (family_key key) (family_key q)) (Some position) (family_year_in old.lasts (family_key q))
 
@@ -143,7 +143,7 @@ keys_of slots = map (λ slot. slot.key) slots
 
 -- the lane of each slot
 abbrev pub lanes_of : List Slot → List ℕ
-lanes_of slots = map (λ slot. slot.key.0) slots
+lanes_of slots = map (λ slot. slot.key.family) slots
 
 -- the next slot of the lane, for each slot
 abbrev pub nexts_of : List Slot → List (Option ℕ)
@@ -215,8 +215,8 @@ pub record AreBacked (keys : List AccumulatorKey) (owns houses : List (Option �
 
 -- the numbers in the keys are below the count of names
 pub record AreKnown (count : ℕ) (keys : List AccumulatorKey) : Type 0 where
-  pub family : (position : ℕ) (key : AccumulatorKey) → slice_get keys position ≡ Some key → key.0 < count
-  pub member : (position : ℕ) (key : AccumulatorKey) → slice_get keys position ≡ Some key → key.1 < count
+  pub family : (position : ℕ) (key : AccumulatorKey) → slice_get keys position ≡ Some key → key.family < count
+  pub member : (position : ℕ) (key : AccumulatorKey) → slice_get keys position ≡ Some key → key.member < count
 
 -- one if the claim at the position is ready, and zero otherwise
 abbrev pub ready_there : List Place → ℕ → ℕ

@@ -8,26 +8,24 @@ use Rattle.lanes.specs.declared.last_by_number.LastByNumber.{LastByNumber}
 use Rattle.lanes.specs.declared.last_claim_index.Predecessors.{Predecessors}
 use Rattle.lanes.specs.declared.last_claim_index.LastClaimIndex.{LastClaimIndex}
 use Rattle.lanes.specs.declared.last_by_key.LastByKey.{LastByKey}
-
 -- the key of an account: the numbers of its family and of its member, and its year
-abbrev pub AccumulatorKey : Type 0
-AccumulatorKey = ℕ × ℕ × ℕ
+pub use Rattle.lanes.specs.declared.accumulator_key.AccumulatorKey.{AccumulatorKey}
 
 -- the order of keys: by family, then by member, then by year
 abbrev pub key_cmp : AccumulatorKey → AccumulatorKey → Ordering
-key_cmp a b = ordering_then (ordering_then (nat_cmp a.0 b.0) (nat_cmp a.1 b.1)) (nat_cmp a.2 b.2)
+key_cmp a b = ordering_then (nat_cmp a.family b.family) (ordering_then (nat_cmp a.member b.member) (nat_cmp a.year b.year))
 
 -- both keys are equal
 abbrev pub is_key : AccumulatorKey → AccumulatorKey → Bool
-is_key a b = ((a.0 == b.0) && (a.1 == b.1)) && (a.2 == b.2)
+is_key a b = ((a.family == b.family) && (a.member == b.member)) && (a.year == b.year)
 
 -- the member is its own family, in year 0
 abbrev pub is_own_family : AccumulatorKey → Bool
-is_own_family key = (key.0 == key.1) && (key.2 == 0)
+is_own_family key = (key.family == key.member) && (key.year == 0)
 
 -- the key of a family and year: the family takes the place of the member
 abbrev pub family_key : AccumulatorKey → AccumulatorKey
-family_key key = (key.0, key.0, key.2)
+family_key key = record key { member = key.family }
 
 -- the last position of a number
 abbrev pub last_of_number : LastByNumber → ℕ → Option ℕ
@@ -44,11 +42,11 @@ last_among others key = flatten (get key_cmp others key)
 
 -- the last position of a key
 abbrev pub last_of_key : LastByKey → AccumulatorKey → Option ℕ
-last_of_key lasts key = if is_own_family key then last_of_number lasts.plain key.0 else last_among lasts.others key
+last_of_key lasts key = if is_own_family key then last_of_number lasts.plain key.family else last_among lasts.others key
 
 -- the index has room for the key in its list or in its map
 abbrev pub HasRoomBy : Bool → LastByKey → AccumulatorKey → Type 0
-HasRoomBy true lasts key = key.0 < length lasts.plain.positions.items
+HasRoomBy true lasts key = key.family < length lasts.plain.positions.items
 HasRoomBy false lasts key = IsSome (get key_cmp lasts.others key)
 
 -- the index has room for the key

@@ -8,9 +8,9 @@ ghost use Rattle.lanes.specs.Calls.{phase_after};
 ghost use Rattle.lanes.specs.FamilyQueues.{AreAs, AddsSlot, DecidesSlot, FirstIsReady, Follows, HasRoom, IsIdle, NextIsAnother, SlotAt, TakesFirst, LinksBack};
 ghost use Rattle.lanes.specs.declared.slot.Slot.{Slot as AnySlot};
 
+use crate::accumulator_key::AccumulatorKey;
 use crate::boxed_claim::BoxedClaim;
 use crate::index32::to_u32;
-use crate::last_by_key::AccumulatorKey;
 use crate::last_by_number::LastByNumber;
 use crate::last_claim_index::LastClaimIndex;
 use crate::phase::Phase;
@@ -78,11 +78,11 @@ impl FamilyQueues {
         key: AccumulatorKey,
         claim: BoxedClaim,
     ) -> Result<(), AllocFailed<BoxedClaim>>
-        requires room { HasRoom self.old key.0 }
-        requires within { (last : ℕ) → last_of_number self.old.ends key.0 ≡ Some last
+        requires room { HasRoom self.old key.family }
+        requires within { (last : ℕ) → last_of_number self.old.ends key.family ≡ Some last
             → last < vec_len self.old.slots }
         ensures slots { OnOk result
-            (AddsSlot self.old self.new key claim (last_of_number self.old.ends key.0)) }
+            (AddsSlot self.old self.new key claim (last_of_number self.old.ends key.family)) }
         ensures back { OnOk result (LinksBack self.old self.new key (vec_len self.old.slots)) }
         ensures returned { IfErr result (λ failed. failed.value ≡ claim) }
         ensures refused { OnErr result (AreAs self.old self.new) }
@@ -91,7 +91,7 @@ impl FamilyQueues {
         let Ok(following) = self.lasts.put(key, position) else {
             return Err(AllocFailed { value: claim });
         };
-        let phase = match self.ends.put(key.0, Some(position)) {
+        let phase = match self.ends.put(key.family, Some(position)) {
             Some(last) => self.follow(last, position, claim),
             None => Phase::Ready(claim),
         };

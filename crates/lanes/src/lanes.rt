@@ -6,10 +6,10 @@ ghost use Rattle.lanes.specs.Places.{InTurn, InWork};
 ghost use Rattle.lanes.specs.Calls.{next_place, with_phase, with_decision, IsPicked, IsInWork, NothingReady, is_decided_at};
 ghost use Rattle.lanes.specs.FamilyQueues.{IsKeyOf};
 
+use crate::accumulator_key::AccumulatorKey;
 use crate::boxed_claim::BoxedClaim;
 use crate::family_queues::FamilyQueues;
 use crate::hints::NameLookup;
-use crate::last_by_key::AccumulatorKey;
 use crate::names::Names;
 use crate::prefetcher::Prefetcher;
 use crate::ready_claim::ReadyClaim;
@@ -81,7 +81,7 @@ impl Lanes {
         let Ok(key) = key_of(&mut self.names, claim.as_claim(), year, prefetched) else {
             return Err(AllocFailed { value: claim });
         };
-        let Ok(()) = self.queues.prepare(key.0) else {
+        let Ok(()) = self.queues.prepare(key.family) else {
             return Err(AllocFailed { value: claim });
         };
         self.queues.add(key, claim)
@@ -150,10 +150,18 @@ fn key_of(
     let lane = names.number(family, lookup)?;
     let member = &claim.member;
     if member.as_str() == family.as_str() {
-        return Ok((lane, lane, year));
+        return Ok(AccumulatorKey {
+            family: lane,
+            member: lane,
+            year,
+        });
     }
     let number = names.number(member, NameLookup::new(member))?;
-    Ok((lane, number, year))
+    Ok(AccumulatorKey {
+        family: lane,
+        member: number,
+        year,
+    })
 }
 
 fn lookup_of(name: &Text, prefetched: Option<NameLookup>) -> NameLookup {

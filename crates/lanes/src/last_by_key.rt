@@ -1,14 +1,12 @@
 //! The position of the last claim of each accumulator key.
 ghost use Rattle.std.specs.Prelude.{◌≡◌, ◌<◌, Some, None, cond, length, if◌then◌else◌, IfOk, OnOk, OnErr, IsSome};
 ghost use Rattle.std.specs.BTreeMap.{get};
-ghost use Rattle.lanes.specs.LastByKey.{AccumulatorKey as AnyKey, HasRoomFor, last_of_key, last_among, is_key, is_own_family, key_cmp, replaced};
+ghost use Rattle.lanes.specs.LastByKey.{AccumulatorKey as AnyKey, HasRoomFor, last_of_key, last_among, is_key, key_cmp, replaced};
 
+use crate::accumulator_key::AccumulatorKey;
 use crate::last_by_number::{LastByNumber, replace_if_set};
 use std::alloc::{AllocError, Global};
 use std::collections::BTreeMap;
-
-/// The key of an account: the numbers of the names of its family and of its member, and its year.
-pub type AccumulatorKey = (u32, u32, u16);
 
 /// The last position of each key that has one.
 ///
@@ -16,7 +14,7 @@ pub type AccumulatorKey = (u32, u32, u16);
 /// memory than a map. A key in the map may have no position. Each call searches the map once.
 pub struct LastByKey {
     pub plain: LastByNumber,
-    pub others: BTreeMap<(u32, u32, u16), Option<u32>>,
+    pub others: BTreeMap<AccumulatorKey, Option<u32>>,
 }
 
 impl Drop for LastByKey {
@@ -43,8 +41,8 @@ impl LastByKey {
     pub fn last_position(&self, key: AccumulatorKey) -> Option<u32>
         ensures { result ≡ last_of_key self.now key }
     {
-        if is_own_family(key) {
-            self.plain.last_of(key.0)
+        if key.is_own_family() {
+            self.plain.last_of(key.family)
         } else {
             self.others.get(&key).copied().flatten()
         }
@@ -60,9 +58,9 @@ impl LastByKey {
         ensures refused { OnErr result
             ((q : AnyKey) → last_of_key self.new q ≡ last_of_key self.old q) }
     {
-        if is_own_family(key) {
-            self.plain.prepare(key.0)?;
-            Ok(self.plain.put(key.0, Some(position)))
+        if key.is_own_family() {
+            self.plain.prepare(key.family)?;
+            Ok(self.plain.put(key.family, Some(position)))
         } else {
             let before = self.others.insert(key, Some(position))?;
             Ok(before.flatten())
@@ -76,8 +74,8 @@ impl LastByKey {
             ≡ cond (is_key key q) (replaced (last_of_key self.old key) position)
             (last_of_key self.old q) }
     {
-        if is_own_family(key) {
-            self.plain.replace_existing(key.0, position)
+        if key.is_own_family() {
+            self.plain.replace_existing(key.family, position)
         } else {
             replace_existing(&mut self.others, key, position)
         }
@@ -89,23 +87,16 @@ impl LastByKey {
         ensures { (q : AnyKey) → last_of_key self.new q
             ≡ cond (is_key key q) position (last_of_key self.old q) }
     {
-        if is_own_family(key) {
-            let _before = self.plain.put(key.0, position);
+        if key.is_own_family() {
+            let _before = self.plain.put(key.family, position);
         } else {
             set(&mut self.others, key, position);
         }
     }
 }
 
-// Returns whether the member is its own family, in year 0.
-fn is_own_family(key: AccumulatorKey) -> bool
-    ensures { result ≡ is_own_family key }
-{
-    key.0 == key.1 && key.2 == 0
-}
-
 fn replace_existing(
-    others: &mut BTreeMap<(u32, u32, u16), Option<u32>>,
+    others: &mut BTreeMap<AccumulatorKey, Option<u32>>,
     key: AccumulatorKey,
     position: u32,
 ) -> Option<u32>
@@ -122,7 +113,7 @@ fn replace_existing(
 }
 
 fn set(
-    others: &mut BTreeMap<(u32, u32, u16), Option<u32>>,
+    others: &mut BTreeMap<AccumulatorKey, Option<u32>>,
     key: AccumulatorKey,
     position: Option<u32>,
 )

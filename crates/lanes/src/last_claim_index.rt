@@ -2,7 +2,8 @@
 ghost use Rattle.std.specs.Prelude.{◌≡◌, ◌==◌, true, false, Some, None, cond, IfOk, OnOk, OnErr};
 ghost use Rattle.lanes.specs.LastByKey.{AccumulatorKey as AnyKey, AreFoundAlike, IsAfter, last_of_key, family_key, family_year_in, is_key};
 
-use crate::last_by_key::{AccumulatorKey, LastByKey};
+use crate::accumulator_key::AccumulatorKey;
+use crate::last_by_key::LastByKey;
 use std::alloc::{AllocError, Global};
 
 /// The position of the last claim of each account, and of each family in a year.
@@ -57,7 +58,7 @@ impl LastClaimIndex {
             (family_year_in self.old (family_key q))) }
         ensures refused { OnErr result (AreFoundAlike self.old self.new) }
     {
-        if key.0 == key.1 {
+        if key.family == key.member {
             self.insert_family(key, position)
         } else {
             self.insert_member(key, position)
@@ -70,7 +71,7 @@ impl LastClaimIndex {
         key: AccumulatorKey,
         position: u32,
     ) -> Result<Predecessors, AllocError>
-        requires { key.0 == key.1 ≡ true }
+        requires { key.family == key.member ≡ true }
         ensures following { IfOk result (IsAfter self.old key) }
         ensures accounts { OnOk result ((q : AnyKey) → last_of_key self.new.accounts q
             ≡ cond (is_key key q) (Some position) (last_of_key self.old.accounts q)) }
@@ -91,7 +92,7 @@ impl LastClaimIndex {
         key: AccumulatorKey,
         position: u32,
     ) -> Result<Predecessors, AllocError>
-        requires { key.0 == key.1 ≡ false }
+        requires { key.family == key.member ≡ false }
         ensures following { IfOk result (IsAfter self.old key) }
         ensures accounts { OnOk result ((q : AnyKey) → last_of_key self.new.accounts q
             ≡ cond (is_key key q) (Some position) (last_of_key self.old.accounts q)) }
@@ -101,7 +102,7 @@ impl LastClaimIndex {
             (family_year_in self.old (family_key q))) }
         ensures refused { OnErr result (AreFoundAlike self.old self.new) }
     {
-        let family_key = (key.0, key.0, key.2);
+        let family_key = key.family_key();
         let own = self.accounts.put(key, position)?;
         match self.family_years.put(family_key, position) {
             Ok(Some(last)) => Ok(Predecessors {

@@ -7,6 +7,7 @@
 //! Begin with `specs/Places.antt` and `specs/Calls.antt`; then read `lanes.rt`.
 #![tactic(auto)]
 
+mod accumulator_key;
 mod boxed_claim;
 mod family_queues;
 mod hints;

@@ -4,8 +4,8 @@ ghost use Rattle.lanes.specs.Places.{Ready, InWork, Decided, is_ready};
 ghost use Rattle.lanes.specs.Calls.{ready_at};
 ghost use Rattle.lanes.specs.FamilyQueues.{left_at};
 
+use crate::accumulator_key::AccumulatorKey;
 use crate::boxed_claim::BoxedClaim;
-use crate::last_by_key::AccumulatorKey;
 use crate::phase::Phase;
 use settlement::Acc;
 use std::mem::replace;

@@ -30,7 +30,7 @@ returns-in_default-prepare-clause-in_turn c =
 
 pub add-requires-clause-within : goal.add-requires-clause-within
 add-requires-clause-within c = λ last is.
-    end-within c.key_of.new.names c.prepare.new.self c.in-Ok.key.0 last
+    end-within c.key_of.new.names c.prepare.new.self c.in-Ok.key.family last
     (prepared-kept c.self.inside.names c.key_of.new.names c.self.inside.queues c.prepare.new.self c.self.invariant c.in-Ok.ensures.grows c.in-Ok.ensures.distinct c.prepare.ensures.same) is
 
 -- the invariant of the queues after memory is reserved
