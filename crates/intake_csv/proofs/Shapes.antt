@@ -1,8 +1,9 @@
 -- The kinds of a record's values, by their columns.
-use Rattle.std.proofs.Common.{◌≡◌, ℕ, ℤ, Bool, true, false, List, [], ◌∷◌, ◌++◌, map, codes, Option, Some, None, is_some, refl, ap, sym, subst, ◌∙◌}
+use Rattle.std.proofs.Common.{◌≡◌, ℕ, ℤ, Bool, true, false, List, [], ◌∷◌, ◌++◌, map, Option, Some, None, is_some, refl, ap, sym, subst, ◌∙◌}
 use Rattle.std.specs.Int.{IsInRange}
 use Rattle.std.specs.List.{AllZip, slice_get}
 use Rattle.std.specs.Option.{option_map_or}
+use Rattle.faults.specs.BuiltInNames.{member_name, met_name, oop_name, paid_name}
 use Rattle.fixpoint.specs.Money.{IsMoney}
 use Rattle.feel_tests.specs.declared.kind.Kind.TheVariants as kinds
 use Rattle.feel_tests.specs.declared.value.Value.{Value}
@@ -283,7 +284,7 @@ claim-layout names header layout h =
     record { fields = own.fields; contents = subst contents (sym own.third) own.contents }
 
 -- the columns of a file of balances
-amount-layout : (header : Fields) (columns : List Column) → AreColumnsOf header (required_column (codes "met") Money ∷ required_column (codes "oop") Money ∷ required_column (codes "paid") Money ∷ []) columns
+amount-layout : (header : Fields) (columns : List Column) → AreColumnsOf header (required_column met_name Money ∷ required_column oop_name Money ∷ required_column paid_name Money ∷ []) columns
     → map (λ c. c.content) columns ≡ Money ∷ Money ∷ Money ∷ []
 amount-layout header [] h = absurd h
 amount-layout header (b ∷ []) h = absurd h.1
@@ -292,7 +293,7 @@ amount-layout header (b ∷ c ∷ d ∷ z ∷ zs) h = absurd h.1.1.1
 amount-layout header (b ∷ c ∷ d ∷ []) h = rw (h.0.content, h.1.0.content, h.1.1.0.content) refl
 
 following-layout : (years : Bool) (header : Fields) (columns : List Column)
-    → AreColumnsOf header (required_column (codes "member") Identifier ∷ (year_columns years ++ required_column (codes "met") Money ∷ required_column (codes "oop") Money ∷ required_column (codes "paid") Money ∷ [])) columns
+    → AreColumnsOf header (required_column member_name Identifier ∷ (year_columns years ++ required_column met_name Money ∷ required_column oop_name Money ∷ required_column paid_name Money ∷ [])) columns
     → map (λ c. c.content) columns ≡ Identifier ∷ (year_contents years ++ Money ∷ Money ∷ Money ∷ [])
 following-layout years header [] h = absurd h
 following-layout false header (a ∷ columns) h = rw (h.0.content, amount-layout header columns h.1) refl
@@ -300,8 +301,8 @@ following-layout true header (a ∷ []) h = absurd h.1
 following-layout true header (a ∷ b ∷ columns) h = rw (h.0.content, h.1.0.content, amount-layout header columns h.1.1) refl
 
 layout-by : (families years : Bool) (header : Fields) (columns : List Column)
-    → AreColumnsOf header (family_columns families ++ required_column (codes "member") Identifier
-    ∷ (year_columns years ++ required_column (codes "met") Money ∷ required_column (codes "oop") Money ∷ required_column (codes "paid") Money ∷ [])) columns
+    → AreColumnsOf header (family_columns families ++ required_column member_name Identifier
+    ∷ (year_columns years ++ required_column met_name Money ∷ required_column oop_name Money ∷ required_column paid_name Money ∷ [])) columns
     → map (λ c. c.content) columns ≡ family_contents families ++ Identifier ∷ (year_contents years ++ Money ∷ Money ∷ Money ∷ [])
 layout-by false years header columns h = following-layout years header columns h
 layout-by true years header [] h = absurd h

@@ -1,10 +1,11 @@
 -- No record lacks a row: it is a claim, or it has a first fault.
-use Rattle.std.proofs.Common.{inl, inr, ◌≡◌, ◌<◌, ◌≤◌, ◌≤ℤ◌, ◌+◌, ◌⊎◌, ℕ, ℤ, pos, suc, Bool, true, false, List, [], ◌∷◌, ◌++◌, length, map, codes, get_or, Some, None, refl, sym, ap, ◌∙◌, arith}
+use Rattle.std.proofs.Common.{inl, inr, ◌≡◌, ◌<◌, ◌≤◌, ◌≤ℤ◌, ◌+◌, ◌⊎◌, ℕ, ℤ, pos, suc, Bool, true, false, List, [], ◌∷◌, ◌++◌, length, map, get_or, Some, None, refl, sym, ap, ◌∙◌, arith}
 use Rattle.std.specs.List.{All, Any, count_by, slice_get}
 use Rattle.std.proofs.lemmas.Bool.{cases_Bool, cases_eq, cases_lt}
 use Rattle.std.proofs.lemmas.Int.{ints}
 use Rattle.std.proofs.lemmas.List.Elements.{All-cons, All-nil, All-weaker}
 use Rattle.csv.specs.Records.{field_at}
+use Rattle.faults.specs.BuiltInNames.{member_name, service_name, billed_name}
 use Rattle.fixpoint.specs.Number.{is_negative}
 use Rattle.feel_tests.specs.TextBytes.{IsText}
 use Rattle.feel_tests.specs.declared.kind.Kind.TheVariants as kinds
@@ -161,7 +162,7 @@ record AreAfter (vs : List Value) : Type 0 where
   pub values : Text member ∷ Day service ∷ Number billed ∷ fields ≡ vs
 
 following-of : (header row : Fields) (more : List RequiredColumn) (columns : List Column) (vs : List Value)
-    → AreColumnsOf header (required_column (codes "member") Identifier ∷ required_column (codes "service") (Plain kinds.Day) ∷ required_column (codes "billed") Money ∷ more) columns → AreValues row columns vs
+    → AreColumnsOf header (required_column member_name Identifier ∷ required_column service_name (Plain kinds.Day) ∷ required_column billed_name Money ∷ more) columns → AreValues row columns vs
     → AreAfter vs
 following-of header row more [] vs h values = absurd h
 following-of header row more (b ∷ []) vs h values = absurd h.1

@@ -1,9 +1,10 @@
 -- The required columns of a file, and their places in its header.
-use Rattle.std.specs.Prelude.{◌≡◌, ◌<◌, ◌≤◌, ◌+◌, ◌-◌, ℕ, Bool, true, false, List, [], ◌∷◌, ◌++◌, length, take, drop, map, codes, Some}
+use Rattle.std.specs.Prelude.{◌≡◌, ◌<◌, ◌≤◌, ◌+◌, ◌-◌, ℕ, Bool, true, false, List, [], ◌∷◌, ◌++◌, length, take, drop, map, Some}
 use Rattle.std.specs.List.{All, AllZip, Any, count_by, slice_get}
 use Rattle.std.specs.Option.{option_map_or}
 use Rattle.std.specs.Str.{bytes_eq}
 use Rattle.csv.specs.Records.{field_at}
+use Rattle.faults.specs.BuiltInNames.{claim_name, family_name, member_name, service_name, billed_name, met_name, oop_name, paid_name, year_name}
 use Rattle.feel_tests.specs.declared.kind.Kind.{Kind}
 use Rattle.feel_tests.specs.declared.kind.Kind.TheVariants as kinds
 use Rattle.dtable.specs.Plan.{has_families, has_years}
@@ -31,7 +32,7 @@ required_column name content = record { name = name; content = content }
 
 -- the plan with these names keeps accumulators for families: only then the second name is `family`
 abbrev pub have_family : List InputData → Bool
-have_family names = option_map_or (λ d. bytes_eq d.name (codes "family")) (slice_get names 1) false
+have_family names = option_map_or (λ d. bytes_eq d.name family_name) (slice_get names 1) false
 
 -- the number of a plan's names before its fields, with families or without them
 abbrev pub names_before : Bool → ℕ
@@ -53,14 +54,14 @@ fields_among names = fields_between (have_family names) names
 
 -- the column of the family, if the plan keeps accumulators for families
 abbrev pub family_columns : Bool → List RequiredColumn
-family_columns true = required_column (codes "family") Identifier ∷ []
+family_columns true = required_column family_name Identifier ∷ []
 family_columns false = []
 
 -- the required columns of every claim
 abbrev pub own_columns : Bool → List RequiredColumn
 own_columns families =
-    required_column (codes "claim") Identifier ∷ (family_columns families ++ required_column (codes "member") Identifier
-    ∷ required_column (codes "service") (Plain kinds.Day) ∷ required_column (codes "billed") Money ∷ [])
+    required_column claim_name Identifier ∷ (family_columns families ++ required_column member_name Identifier
+    ∷ required_column service_name (Plain kinds.Day) ∷ required_column billed_name Money ∷ [])
 
 -- the required columns of a claim file: those of every claim, and one for each field of the plan
 abbrev pub claim_columns : List InputData → List RequiredColumn
@@ -68,14 +69,14 @@ claim_columns names = own_columns (have_family names) ++ map (λ d. required_col
 
 -- the column of a balance's year, if the plan keeps accumulators by benefit year
 abbrev pub year_columns : Bool → List RequiredColumn
-year_columns true = required_column (codes "year") Year ∷ []
+year_columns true = required_column year_name Year ∷ []
 year_columns false = []
 
 -- the required columns of a file of balances under a plan of this version
 abbrev pub balance_columns : ℕ → List RequiredColumn
 balance_columns version =
-    family_columns (has_families version) ++ required_column (codes "member") Identifier
-    ∷ (year_columns (has_years version) ++ required_column (codes "met") Money ∷ required_column (codes "oop") Money ∷ required_column (codes "paid") Money ∷ [])
+    family_columns (has_families version) ++ required_column member_name Identifier
+    ∷ (year_columns (has_years version) ++ required_column met_name Money ∷ required_column oop_name Money ∷ required_column paid_name Money ∷ [])
 
 -- the place of the member's column among the required ones
 abbrev pub member_place : ℕ → ℕ

@@ -22,6 +22,7 @@ use crate::headered_file::{HeaderedFile, read_headered_file};
 use crate::record::read_record;
 use crate::values::{take_family, take_money, take_text};
 use dtable::{Plan, Sequence, has_families, has_years};
+use faults::names::{MEMBER, MET, OOP, PAID, YEAR};
 use faults::{BalanceFault, FileFault, RowCause, RowFault};
 use feel_tests::{Text, Value, year_in};
 use settlement::{Acc, Balance};
@@ -376,11 +377,11 @@ fn balance_columns(alloc: Global, version: u8) -> Result<Sequence<RequiredColumn
 {
     let mut needed = Sequence::new(alloc);
     push_family(alloc, &mut needed, has_families(version))?;
-    push_column(alloc, &mut needed, "member", Content::Identifier)?;
+    push_column(alloc, &mut needed, MEMBER, Content::Identifier)?;
     push_year(alloc, &mut needed, has_years(version))?;
-    push_column(alloc, &mut needed, "met", Content::Money)?;
-    push_column(alloc, &mut needed, "oop", Content::Money)?;
-    push_column(alloc, &mut needed, "paid", Content::Money)?;
+    push_column(alloc, &mut needed, MET, Content::Money)?;
+    push_column(alloc, &mut needed, OOP, Content::Money)?;
+    push_column(alloc, &mut needed, PAID, Content::Money)?;
     Ok(needed)
 }
 
@@ -393,7 +394,7 @@ fn push_year(
     ensures { OnOk result (needed.new ≡ needed.old ++ year_columns years) }
 {
     if years {
-        push_column(alloc, needed, "year", Content::Year)
+        push_column(alloc, needed, YEAR, Content::Year)
     } else {
         Ok(())
     }

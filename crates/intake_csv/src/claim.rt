@@ -13,6 +13,7 @@ use crate::column_values::{day_of_column, money_of_column, text_of_column, value
 use crate::csv_record::CsvRecord;
 use crate::validation::first_fault;
 use dtable::{InputData, Plan, Sequence};
+use faults::names::{BILLED, CLAIM, FAMILY, MEMBER, SERVICE};
 use faults::{RowCause, RowFault};
 use feel_tests::{Kind, Text};
 use settlement::{Claim, fields_of};
@@ -31,11 +32,11 @@ fn own_columns(alloc: Global, families: bool) -> Result<Sequence<RequiredColumn>
     ensures { IfOk result (λ columns. columns ≡ own_columns families) }
 {
     let mut needed = Sequence::new(alloc);
-    push_column(alloc, &mut needed, "claim", Content::Identifier)?;
+    push_column(alloc, &mut needed, CLAIM, Content::Identifier)?;
     push_family(alloc, &mut needed, families)?;
-    push_column(alloc, &mut needed, "member", Content::Identifier)?;
-    push_column(alloc, &mut needed, "service", Content::Plain(Kind::Day))?;
-    push_column(alloc, &mut needed, "billed", Content::Money)?;
+    push_column(alloc, &mut needed, MEMBER, Content::Identifier)?;
+    push_column(alloc, &mut needed, SERVICE, Content::Plain(Kind::Day))?;
+    push_column(alloc, &mut needed, BILLED, Content::Money)?;
     Ok(needed)
 }
 
@@ -48,7 +49,7 @@ pub fn push_family(
     ensures { OnOk result (needed.new ≡ needed.old ++ family_columns families) }
 {
     if families {
-        push_column(alloc, needed, "family", Content::Identifier)
+        push_column(alloc, needed, FAMILY, Content::Identifier)
     } else {
         Ok(())
     }
