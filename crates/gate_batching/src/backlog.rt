@@ -3,8 +3,9 @@
 //!
 //! Reading a file is faster than deciding its claims, and a waiting claim takes several times the
 //! memory of a decided one. So an intake thread that is far ahead sleeps. The proofs do not depend
-//! on the counts: they may be wrong if other callers use the same gate, and then an intake thread
-//! sleeps for too long or not at all. Every wait is bounded.
+//! on the counts: they are wrong if other callers of the same gate take claims, which nobody counts.
+//! Every wait is bounded, and after one that ended by its bound all claims so far count as taken, so
+//! that wrong counts make an intake thread sleep once in thousands of claims.
 
 use std::sync::Wait;
 use std::sync::atomic::{AtomicU64, Ordering};
@@ -24,9 +25,9 @@ const CLAIMS_ENOUGH: u64 = 4_096;
 /// The maximum length of one sleep, in case no thread wakes the sleeper.
 const SLEEP_MICROS: u64 = 5_000;
 
-/// The number of sleeps, a tenth of a second in all, after which an intake thread goes on for a
-/// turn whatever the backlog is: the thread that should take the claims may be waiting for this
-/// one.
+/// The number of sleeps, a tenth of a second in all, after which an intake thread goes on whatever
+/// the backlog is: the thread that should take the claims may be waiting for this one, or another
+/// caller may have taken them.
 const SLEEPS_LIMIT: u32 = 20;
 
 /// The number of waiting claims: those that were offered less those that were taken.
@@ -85,7 +86,16 @@ impl Backlog {
         self.sleepers.fetch_add(1, Ordering::SeqCst);
         let sleeps = self.sleep_until_short(rt);
         self.sleepers.fetch_sub(1, Ordering::SeqCst);
+        if sleeps == SLEEPS_LIMIT {
+            self.forget();
+        }
         sleeps
+    }
+
+    // Counts all claims so far as taken.
+    fn forget(&self) {
+        self.taken
+            .store(self.offered.load(Ordering::SeqCst), Ordering::SeqCst);
     }
 
     fn sleep_until_short<R: Wait>(&self, rt: &R) -> u32 {

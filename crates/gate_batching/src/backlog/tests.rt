@@ -44,6 +44,32 @@ fn an_intake_far_ahead_goes_on_after_a_while(rt: HostRuntime) -> Result<(), Fail
     backlog.add_one();
     assert!(rt; backlog.await_shorter(&rt) == SLEEPS_LIMIT);
     assert!(rt; !backlog.has_sleepers());
+    // The next turn begins at once.
+    assert!(rt; backlog.await_shorter(&rt) == 0);
+    Ok(())
+}
+
+// Begins a turn of an intake thread that offers these claims. Another caller takes half of them,
+// and nobody counts those.
+fn offer_half_for_another<R: Wait>(rt: &R, backlog: &Backlog, claims: u64) -> u32 {
+    let sleeps = backlog.await_shorter(rt);
+    for _ in 0..claims / 2 {
+        backlog.add_one();
+        backlog.add_one();
+        backlog.remove_one();
+    }
+    sleeps
+}
+
+#[test]
+fn an_intake_seldom_sleeps_where_others_take_claims(rt: HostRuntime) -> Result<(), Fail> {
+    let backlog = Backlog::new();
+    let mut sleeps = 0u32;
+    for _ in 0..64 {
+        sleeps = sleeps.saturating_add(offer_half_for_another(&rt, &backlog, CLAIMS_LIMIT / 8));
+    }
+    // Half of the claims of 64 turns are four times the limit.
+    assert!(rt; sleeps <= 4 * SLEEPS_LIMIT);
     Ok(())
 }
 
