@@ -1,6 +1,5 @@
 -- The results of the calls in the terms of the sequential gate, and what the calls require.
 use Rattle.std.specs.Prelude.{◌≡◌, ◌<◌, ◌++◌, ℕ, true, List, [], ◌∷◌, length, Some, Result, Ok, Err, cond, Option}
-use Rattle.settlement.specs.declared.outcome.Outcome.{Outcome}
 use Rattle.journal.specs.Terms.{Terms, IsProvider, claims_of}
 use Rattle.journal.specs.Events.{accepted_count, closed, has_decision, claim_filed, reached}
 use Rattle.journal.specs.Gate.{OfferReply, EndReply, TakeReply, FinishReply}
@@ -14,7 +13,8 @@ use Rattle.claim_gate.specs.declared.fault.TakeFault.{TakeFault}
 use Rattle.claim_gate.specs.declared.fault.FinishFault.{FinishFault}
 use Rattle.claim_gate.specs.declared.fault.FinishFault.TheVariants as finish
 use Rattle.claim_gate.specs.Parts.{GateParts}
-use Rattle.claim_gate.specs.declared.job.Job.{Job}
+use Rattle.claim_gate.specs.declared.answer.Refused.{Refused}
+use Rattle.claim_gate.specs.declared.job.DecidedJob.{DecidedJob}
 use Rattle.claim_gate.specs.declared.offer.Offer.{Offer}
 use Rattle.claim_gate.specs.declared.reply.Accepted.{Accepted}
 use Rattle.claim_gate.specs.declared.reply.Ended.{Ended}
@@ -29,9 +29,9 @@ offer_refusal (offer.OutOfTurn expected) = OfferReply.OutOfTurn expected
 offer_refusal offer.OutOfMemory = OfferReply.NoMemory
 
 -- the result of `offer`
-abbrev pub offer_reply : Result Accepted (OfferFault × Offer) → OfferReply
+abbrev pub offer_reply : Result Accepted (Refused OfferFault Offer) → OfferReply
 offer_reply (Ok accepted_count) = OfferReply.Accepted accepted_count.position
-offer_reply (Err refused) = offer_refusal refused.0
+offer_reply (Err refused) = offer_refusal refused.fault
 
 -- the result of `end`
 abbrev pub end_reply : Result Ended EndFault → EndReply
@@ -56,9 +56,9 @@ finish_refusal finish.AlreadyDecided = FinishReply.AlreadyDecided
 finish_refusal finish.OutOfMemory = FinishReply.NoMemory
 
 -- the result of `finish`
-abbrev pub finish_reply : Result Recorded (FinishFault × Job × Outcome) → FinishReply
+abbrev pub finish_reply : Result Recorded (Refused FinishFault DecidedJob) → FinishReply
 finish_reply (Ok recorded) = FinishReply.Recorded
-finish_reply (Err refused) = finish_refusal refused.0
+finish_reply (Err refused) = finish_refusal refused.fault
 
 -- the offered claim is the one at its provider's place
 abbrev pub IsFiled : Terms → Offer → Type 0

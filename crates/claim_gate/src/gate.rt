@@ -1,17 +1,17 @@
 //! A gate that several callers share, each of them with its own pass.
 
+use crate::answer::{FinishResult, OfferResult, Served, WornOut};
 use crate::counts::Counts;
-use crate::fault::{EndFault, FinishFault, OfferFault, TakeFault};
-use crate::job::Job;
+use crate::fault::{EndFault, TakeFault};
+use crate::job::{DecidedJob, Job};
 use crate::offer::Offer;
-use crate::reply::{Accepted, Ended, Recorded, Taken};
+use crate::reply::{Ended, Taken};
 use journal::BoxedOutcome;
 use std::sync::Wait;
-use turn_lock::Worn;
 
 /// A gate that several callers share. `split` only gives another caller a pass of its own. Each other call is exactly one
-/// critical section of the caller's pass, in which it behaves as the call of the sequential gate does. `Worn` says that the
-/// lock has no ticket left; it changes nothing and takes precedence over all other results.
+/// critical section of the caller's pass, in which it behaves as the call of the sequential gate does. `WornOut` says that
+/// the lock has no ticket left; it changes nothing and takes precedence over all other results.
 ///
 /// Each call returns the pass, which still knows all that it has seen. Calls may wait, and their contracts hold where they
 /// return.
@@ -49,18 +49,18 @@ pub trait Gate {
         rt: &R,
         pass: Self::Pass,
         offer: Offer,
-    ) -> Result<(Result<Accepted, (OfferFault, Offer)>, Self::Pass), (Worn, Self::Pass, Offer)>
+    ) -> Result<Served<OfferResult, Self::Pass>, WornOut<Self::Pass, Offer>>
         requires own { has_pass self.now pass }
         requires filed { ForTerms (known pass).seen.terms (λ T. IsFiled T offer) }
         requires in_order { InTurn (known pass).seen offer.provider }
-        ensures served { IfOk result (λ r. IsServed (has_pass self.now) known (known pass) r.1) }
+        ensures served { IfOk result (λ r. IsServed (has_pass self.now) known (known pass) r.pass) }
         ensures reply { IfOk result
-            (λ r. Went (λ old new. Offers old offer.provider offer.place (offer_reply r.0) new)
-            (known r.1)) }
-        ensures back { IfOk result (λ r. IfErr r.0 (λ refused. refused.1 ≡ offer)) }
+            (λ r. Went (λ old new. Offers old offer.provider offer.place (offer_reply r.reply) new)
+            (known r.pass)) }
+        ensures back { IfOk result (λ r. IfErr r.reply (λ refused. refused.value ≡ offer)) }
         ensures worn { IfErr result
-            (λ e. IsWornOut (has_pass self.now) is_worn known (known pass) e.1) }
-        ensures worn_back { IfErr result (λ e. e.2 ≡ offer) }
+            (λ e. IsWornOut (has_pass self.now) is_worn known (known pass) e.pass) }
+        ensures worn_back { IfErr result (λ e. e.value ≡ offer) }
         ensures late { is_worn pass → IsErr result };
 
     /// Ends a provider of which all `count` claims are accepted.
@@ -70,14 +70,15 @@ pub trait Gate {
         pass: Self::Pass,
         provider: usize,
         count: usize,
-    ) -> Result<(Result<Ended, EndFault>, Self::Pass), (Worn, Self::Pass)>
+    ) -> Result<Served<Result<Ended, EndFault>, Self::Pass>, WornOut<Self::Pass>>
         requires own { has_pass self.now pass }
         requires claims { ForTerms (known pass).seen.terms (λ T. HasClaims T provider count) }
-        ensures served { IfOk result (λ r. IsServed (has_pass self.now) known (known pass) r.1) }
+        ensures served { IfOk result (λ r. IsServed (has_pass self.now) known (known pass) r.pass) }
         ensures reply { IfOk result
-            (λ r. Went (λ old new. Ends old provider count (end_reply r.0) new) (known r.1)) }
+            (λ r. Went (λ old new. Ends old provider count (end_reply r.reply) new)
+            (known r.pass)) }
         ensures worn { IfErr result
-            (λ e. IsWornOut (has_pass self.now) is_worn known (known pass) e.1) }
+            (λ e. IsWornOut (has_pass self.now) is_worn known (known pass) e.pass) }
         ensures late { is_worn pass → IsErr result };
 
     /// Takes a claim for which all earlier claims of its family are decided.
@@ -85,14 +86,15 @@ pub trait Gate {
         &self,
         rt: &R,
         pass: Self::Pass,
-    ) -> Result<(Result<Taken, TakeFault>, Self::Pass), (Worn, Self::Pass)>
+    ) -> Result<Served<Result<Taken, TakeFault>, Self::Pass>, WornOut<Self::Pass>>
         requires { has_pass self.now pass }
-        ensures served { IfOk result (λ r. IsServed (has_pass self.now) known (known pass) r.1) }
+        ensures served { IfOk result (λ r. IsServed (has_pass self.now) known (known pass) r.pass) }
         ensures reply { IfOk result
-            (λ r. Went (λ old new. Takes old (take_reply r.0) new) (known r.1)) }
-        ensures work { IfOk result (λ r. IfOk r.0 (IsWorkOf (known r.1).found (known r.1).seen)) }
+            (λ r. Went (λ old new. Takes old (take_reply r.reply) new) (known r.pass)) }
+        ensures work { IfOk result
+            (λ r. IfOk r.reply (IsWorkOf (known r.pass).found (known r.pass).seen)) }
         ensures worn { IfErr result
-            (λ e. IsWornOut (has_pass self.now) is_worn known (known pass) e.1) }
+            (λ e. IsWornOut (has_pass self.now) is_worn known (known pass) e.pass) }
         ensures late { is_worn pass → IsErr result };
 
     /// Records the outcome of a job and returns the job's claim. Returns the job and the outcome where they are refused.
@@ -102,38 +104,33 @@ pub trait Gate {
         pass: Self::Pass,
         job: Job,
         outcome: BoxedOutcome,
-    ) -> Result<
-        (
-            Result<Recorded, (FinishFault, Job, BoxedOutcome)>,
-            Self::Pass,
-        ),
-        (Worn, Self::Pass, Job, BoxedOutcome),
-    >
+    ) -> Result<Served<FinishResult, Self::Pass>, WornOut<Self::Pass, DecidedJob>>
         requires own { has_pass self.now pass }
         requires in_work { has_take (known pass).seen.journal job.position ≡ true }
         requires job { ForTerms (known pass).seen.terms
             (λ T. IsJob T (known pass).seen.journal job.position job.claim job.acc) }
         requires settled { outcome ≡ outcome_of (known pass).seen.terms.plan job.claim job.acc }
-        ensures served { IfOk result (λ r. IsServed (has_pass self.now) known (known pass) r.1) }
+        ensures served { IfOk result (λ r. IsServed (has_pass self.now) known (known pass) r.pass) }
         ensures reply { IfOk result
-            (λ r. Went (λ old new. Finishes old job.position outcome (finish_reply r.0) new)
-            (known r.1)) }
-        ensures claim { IfOk result (λ r. IfOk r.0 (λ recorded. recorded.claim ≡ job.claim)) }
+            (λ r. Went (λ old new. Finishes old job.position outcome (finish_reply r.reply) new)
+            (known r.pass)) }
+        ensures claim { IfOk result (λ r. IfOk r.reply (λ recorded. recorded.claim ≡ job.claim)) }
         ensures back { IfOk result
-            (λ r. IfErr r.0 (λ refused. (refused.1 ≡ job) × (refused.2 ≡ outcome))) }
+            (λ r. IfErr r.reply (λ refused. (refused.value.job ≡ job)
+            × (refused.value.outcome ≡ outcome))) }
         ensures worn { IfErr result
-            (λ e. IsWornOut (has_pass self.now) is_worn known (known pass) e.1) }
-        ensures worn_back { IfErr result (λ e. (e.2 ≡ job) × (e.3 ≡ outcome)) }
+            (λ e. IsWornOut (has_pass self.now) is_worn known (known pass) e.pass) }
+        ensures worn_back { IfErr result (λ e. (e.value.job ≡ job) × (e.value.outcome ≡ outcome)) }
         ensures late { is_worn pass → IsErr result };
 
     /// Stops the gate. From then on `offer`, `end`, `take` and `finish` report that it is stopped and change nothing. The
     /// journal is not changed.
-    fn stop<R: Wait>(&self, rt: &R, pass: Self::Pass) -> Result<Self::Pass, (Worn, Self::Pass)>
+    fn stop<R: Wait>(&self, rt: &R, pass: Self::Pass) -> Result<Self::Pass, WornOut<Self::Pass>>
         requires { has_pass self.now pass }
         ensures served { IfOk result (IsServed (has_pass self.now) known (known pass)) }
         ensures stopped { IfOk result (λ p. Went Stops (known p)) }
         ensures worn { IfErr result
-            (λ e. IsWornOut (has_pass self.now) is_worn known (known pass) e.1) }
+            (λ e. IsWornOut (has_pass self.now) is_worn known (known pass) e.pass) }
         ensures late { is_worn pass → IsErr result };
 
     /// Returns the progress of the gate.
@@ -141,13 +138,13 @@ pub trait Gate {
         &self,
         rt: &R,
         pass: Self::Pass,
-    ) -> Result<(Counts, Self::Pass), (Worn, Self::Pass)>
+    ) -> Result<Served<Counts, Self::Pass>, WornOut<Self::Pass>>
         requires { has_pass self.now pass }
-        ensures served { IfOk result (λ r. IsServed (has_pass self.now) known (known pass) r.1) }
+        ensures served { IfOk result (λ r. IsServed (has_pass self.now) known (known pass) r.pass) }
         ensures reply { IfOk result
-            (λ r. Went (λ old new. (new ≡ old) × AreCounts old r.0.accepted r.0.ended r.0.decided
-            r.0.closed r.0.stopped) (known r.1)) }
+            (λ r. Went (λ old new. (new ≡ old) × AreCounts old r.reply.accepted r.reply.ended
+            r.reply.decided r.reply.closed r.reply.stopped) (known r.pass)) }
         ensures worn { IfErr result
-            (λ e. IsWornOut (has_pass self.now) is_worn known (known pass) e.1) }
+            (λ e. IsWornOut (has_pass self.now) is_worn known (known pass) e.pass) }
         ensures late { is_worn pass → IsErr result };
 }

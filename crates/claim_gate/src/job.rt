@@ -1,6 +1,7 @@
 //! Claims that are being decided.
 ghost use Rattle.std.specs.Prelude.{◌≡◌, IfOk};
 
+use journal::BoxedOutcome;
 use lanes::BoxedClaim;
 use settlement::Acc;
 use std::alloc::{AllocError, Global};
@@ -14,6 +15,15 @@ pub struct Job {
     pub claim: BoxedClaim,
     /// Its account's accumulators after the earlier claims of its family.
     pub acc: Acc,
+}
+
+/// A job and its outcome.
+#[derive(Drop)]
+pub struct DecidedJob {
+    /// The job.
+    pub job: Job,
+    /// The outcome.
+    pub outcome: BoxedOutcome,
 }
 
 impl Job {

@@ -15,6 +15,7 @@
 //! read `specs/Shared.antt`, then `gate.rt` and `locked.rt`.
 #![tactic(auto)]
 
+mod answer;
 mod batch;
 mod counts;
 mod fault;
@@ -30,12 +31,13 @@ mod serial;
 mod state;
 mod terms;
 
+pub use answer::{FinishResult, OfferResult, Refused, Served, WornOut};
 pub use batch::Batch;
 pub use counts::Counts;
 pub use fault::{EndFault, FinishFault, OfferFault, TakeFault};
 pub use faults::TermsFault;
 pub use gate::Gate;
-pub use job::Job;
+pub use job::{DecidedJob, Job};
 pub use journal::{BoxedOutcome, Event};
 pub use lanes::BoxedClaim;
 pub use laws::claim_lists_exist;

@@ -4,18 +4,19 @@ ghost use Rattle.journal.specs.Gate.{LeadsTo};
 ghost use Rattle.claim_gate.specs.Shared.{IsLawful};
 ghost use Rattle.claim_gate.specs.Locked.{lock_of, known_by};
 
+use crate::answer::{FinishResult, OfferResult, Served, WornOut};
 use crate::counts::Counts;
-use crate::fault::{EndFault, FinishFault, OfferFault, TakeFault};
+use crate::fault::{EndFault, TakeFault};
 use crate::gate::Gate;
-use crate::job::Job;
+use crate::job::{DecidedJob, Job};
 use crate::offer::Offer;
 use crate::prefetching::{Prefetching, SerialPrefetching};
-use crate::reply::{Accepted, Ended, Recorded, Taken};
+use crate::reply::{Ended, Taken};
 use crate::serial::SerialGate;
 use journal::{BoxedOutcome, jobs_are_stable};
 use lanes::BoxedClaim;
 use std::sync::Wait;
-use turn_lock::{Pass, Section, TicketLock, Worn};
+use turn_lock::{Pass, Section, TicketLock};
 
 /// A sequential gate that is protected by a lock. Its passes are those of the lock, and each call of the sequential gate is
 /// one critical section.
@@ -36,8 +37,8 @@ where
     }
 
     /// Takes the sequential gate out of the lock, in the state that the pass's next section finds. No later call of any pass is
-    /// served. `Worn` changes nothing, and the pass still knows what it knew.
-    pub fn retire<R: Wait>(&self, rt: &R, pass: S::Pass) -> Result<S::Value, (Worn, S::Pass)>
+    /// served. `WornOut` changes nothing, and the pass still knows what it knew.
+    pub fn retire<R: Wait>(&self, rt: &R, pass: S::Pass) -> Result<S::Value, WornOut<S::Pass>>
         requires { S.has_pass (lock_of self.now) pass }
         ensures fresh { IfOk result
             (λ gate. LeadsTo (S.Value.shown (S.seen pass)) (S.Value.shown gate)) }
@@ -45,10 +46,10 @@ where
         ensures found { IfOk result
             (λ gate. (holder : S.Holder) × S.has_holder (lock_of self.now) holder
             × (S.found holder ≡ gate) × (S.tally_before holder ≡ S.tally pass)) }
-        ensures worn { IfErr result (λ e. S.is_worn e.1) }
+        ensures worn { IfErr result (λ e. S.is_worn e.pass) }
         ensures back { IfErr result
-            (λ e. S.has_pass (lock_of self.now) e.1 × (S.seen e.1 ≡ S.seen pass)
-            × (S.tally e.1 ≡ S.tally pass) × (S.last_found e.1 ≡ S.last_found pass)) }
+            (λ e. S.has_pass (lock_of self.now) e.pass × (S.seen e.pass ≡ S.seen pass)
+            × (S.tally e.pass ≡ S.tally pass) × (S.last_found e.pass ≡ S.last_found pass)) }
         ensures late { S.is_worn pass → IsErr result }
     {
         match self.lock.lock(rt, pass) {
@@ -57,7 +58,7 @@ where
                 let _lawful = state.journal();
                 Ok(self.lock.retire(holder, state))
             }
-            Err(worn) => Err(worn),
+            Err((_, pass)) => Err(WornOut { pass, value: () }),
         }
     }
 }
@@ -105,15 +106,18 @@ where
         rt: &R,
         pass: S::Pass,
         offer: Offer,
-    ) -> Result<(Result<Accepted, (OfferFault, Offer)>, S::Pass), (Worn, S::Pass, Offer)> {
+    ) -> Result<Served<OfferResult, S::Pass>, WornOut<S::Pass, Offer>> {
         match self.lock.lock(rt, pass) {
             Ok((mut state, holder)) => {
                 // proof: the journal that the section found is valid.
                 let _lawful = state.journal();
                 let reply = state.offer(offer);
-                Ok((reply, self.lock.leave(holder, state)))
+                Ok(Served {
+                    reply,
+                    pass: self.lock.leave(holder, state),
+                })
             }
-            Err((worn, pass)) => Err((worn, pass, offer)),
+            Err((_, pass)) => Err(WornOut { pass, value: offer }),
         }
     }
 
@@ -123,15 +127,18 @@ where
         pass: S::Pass,
         provider: usize,
         count: usize,
-    ) -> Result<(Result<Ended, EndFault>, S::Pass), (Worn, S::Pass)> {
+    ) -> Result<Served<Result<Ended, EndFault>, S::Pass>, WornOut<S::Pass>> {
         match self.lock.lock(rt, pass) {
             Ok((mut state, holder)) => {
                 // proof: the journal that the section found is valid.
                 let _lawful = state.journal();
                 let reply = state.end(provider, count);
-                Ok((reply, self.lock.leave(holder, state)))
+                Ok(Served {
+                    reply,
+                    pass: self.lock.leave(holder, state),
+                })
             }
-            Err(worn) => Err(worn),
+            Err((_, pass)) => Err(WornOut { pass, value: () }),
         }
     }
 
@@ -139,15 +146,18 @@ where
         &self,
         rt: &R,
         pass: S::Pass,
-    ) -> Result<(Result<Taken, TakeFault>, S::Pass), (Worn, S::Pass)> {
+    ) -> Result<Served<Result<Taken, TakeFault>, S::Pass>, WornOut<S::Pass>> {
         match self.lock.lock(rt, pass) {
             Ok((mut state, holder)) => {
                 // proof: the journal that the section found is valid.
                 let _lawful = state.journal();
                 let reply = state.take();
-                Ok((reply, self.lock.leave(holder, state)))
+                Ok(Served {
+                    reply,
+                    pass: self.lock.leave(holder, state),
+                })
             }
-            Err(worn) => Err(worn),
+            Err((_, pass)) => Err(WornOut { pass, value: () }),
         }
     }
 
@@ -157,10 +167,7 @@ where
         pass: S::Pass,
         job: Job,
         outcome: BoxedOutcome,
-    ) -> Result<
-        (Result<Recorded, (FinishFault, Job, BoxedOutcome)>, S::Pass),
-        (Worn, S::Pass, Job, BoxedOutcome),
-    > {
+    ) -> Result<Served<FinishResult, S::Pass>, WornOut<S::Pass, DecidedJob>> {
         // proof: a job is a job in every later state of the gate.
         jobs_are_stable();
         match self.lock.lock(rt, pass) {
@@ -168,13 +175,19 @@ where
                 // proof: the journal that the section found is valid.
                 let _lawful = state.journal();
                 let reply = state.finish(job, outcome);
-                Ok((reply, self.lock.leave(holder, state)))
+                Ok(Served {
+                    reply,
+                    pass: self.lock.leave(holder, state),
+                })
             }
-            Err((worn, pass)) => Err((worn, pass, job, outcome)),
+            Err((_, pass)) => Err(WornOut {
+                pass,
+                value: DecidedJob { job, outcome },
+            }),
         }
     }
 
-    fn stop<R: Wait>(&self, rt: &R, pass: S::Pass) -> Result<S::Pass, (Worn, S::Pass)> {
+    fn stop<R: Wait>(&self, rt: &R, pass: S::Pass) -> Result<S::Pass, WornOut<S::Pass>> {
         match self.lock.lock(rt, pass) {
             Ok((mut state, holder)) => {
                 // proof: the journal that the section found is valid.
@@ -182,19 +195,26 @@ where
                 state.stop();
                 Ok(self.lock.leave(holder, state))
             }
-            Err(worn) => Err(worn),
+            Err((_, pass)) => Err(WornOut { pass, value: () }),
         }
     }
 
-    fn counts<R: Wait>(&self, rt: &R, pass: S::Pass) -> Result<(Counts, S::Pass), (Worn, S::Pass)> {
+    fn counts<R: Wait>(
+        &self,
+        rt: &R,
+        pass: S::Pass,
+    ) -> Result<Served<Counts, S::Pass>, WornOut<S::Pass>> {
         match self.lock.lock(rt, pass) {
             Ok((state, holder)) => {
                 // proof: the journal that the section found is valid.
                 let _lawful = state.journal();
-                let counts = state.counts();
-                Ok((counts, self.lock.leave(holder, state)))
+                let reply = state.counts();
+                Ok(Served {
+                    reply,
+                    pass: self.lock.leave(holder, state),
+                })
             }
-            Err(worn) => Err(worn),
+            Err((_, pass)) => Err(WornOut { pass, value: () }),
         }
     }
 }
@@ -209,7 +229,7 @@ where
         rt: &R,
         pass: S::Pass,
         claims: &[BoxedClaim],
-    ) -> Result<S::Pass, (Worn, S::Pass)> {
+    ) -> Result<S::Pass, WornOut<S::Pass>> {
         match self.lock.lock(rt, pass) {
             Ok((mut state, holder)) => {
                 // proof: the journal that the section found is valid.
@@ -217,7 +237,7 @@ where
                 state.prefetch(claims);
                 Ok(self.lock.leave(holder, state))
             }
-            Err(worn) => Err(worn),
+            Err((_, pass)) => Err(WornOut { pass, value: () }),
         }
     }
 }

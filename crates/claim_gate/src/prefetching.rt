@@ -1,10 +1,10 @@
 //! Gates that prefetch what the next offers need.
 
+use crate::answer::WornOut;
 use crate::gate::Gate;
 use crate::serial::SerialGate;
 use lanes::BoxedClaim;
 use std::sync::Wait;
-use turn_lock::Worn;
 
 /// A shared gate that prefetches. Prefetching saves time and changes no result.
 pub trait Prefetching: Gate {
@@ -17,14 +17,14 @@ pub trait Prefetching: Gate {
         rt: &R,
         pass: Self::Pass,
         claims: &[BoxedClaim],
-    ) -> Result<Self::Pass, (Worn, Self::Pass)>
+    ) -> Result<Self::Pass, WornOut<Self::Pass>>
         requires { Self.has_pass self.now pass }
         ensures served { IfOk result
             (IsServed (Self.has_pass self.now) Self.known (Self.known pass)) }
         ensures same { IfOk result (λ p. Went (λ old new. new ≡ old) (Self.known p)) }
         ensures worn { IfErr result
             (λ e. IsWornOut (Self.has_pass self.now) Self.is_worn Self.known
-            (Self.known pass) e.1) }
+            (Self.known pass) e.pass) }
         ensures late { Self.is_worn pass → IsErr result };
 }
 

@@ -1,11 +1,12 @@
 //! The calls of a sequential gate, for code that is generic over the gate that a lock protects.
 
+use crate::answer::{FinishResult, OfferResult};
 use crate::counts::Counts;
-use crate::fault::{EndFault, FinishFault, OfferFault, TakeFault};
+use crate::fault::{EndFault, TakeFault};
 use crate::job::Job;
 use crate::offer::Offer;
 use crate::prefetching::SerialPrefetching;
-use crate::reply::{Accepted, Ended, Recorded, Taken};
+use crate::reply::{Ended, Taken};
 use crate::state::GateState;
 use journal::{BoxedOutcome, Event};
 use lanes::BoxedClaim;
@@ -48,7 +49,7 @@ pub trait SerialGate: Growing {
         ensures ordered { IsOrdered (shown self.now) };
 
     /// Offers a claim, as `GateState::offer` does.
-    fn offer(&mut self, offer: Offer) -> Result<Accepted, (OfferFault, Offer)>
+    fn offer(&mut self, offer: Offer) -> OfferResult
         requires filed { ForTerms (shown self.old).terms (λ T. IsFiled T offer) }
         requires in_order { InTurn (shown self.old) offer.provider }
         ensures grown { Self.leads self.old self.new }
@@ -56,7 +57,7 @@ pub trait SerialGate: Growing {
             (λ T. Offers (at T (shown self.old)) offer.provider offer.place (offer_reply result)
             (at T (shown self.new))) }
         ensures lawful { IsLawful (shown self.new) }
-        ensures back { IfErr result (λ refused. refused.1 ≡ offer) };
+        ensures back { IfErr result (λ refused. refused.value ≡ offer) };
 
     /// Ends a provider, as `GateState::end` does.
     fn end(&mut self, provider: usize, count: usize) -> Result<Ended, EndFault>
@@ -76,11 +77,7 @@ pub trait SerialGate: Growing {
         ensures lawful { IsLawful (shown self.new) };
 
     /// Records an outcome, as `GateState::finish` does.
-    fn finish(
-        &mut self,
-        job: Job,
-        outcome: BoxedOutcome,
-    ) -> Result<Recorded, (FinishFault, Job, BoxedOutcome)>
+    fn finish(&mut self, job: Job, outcome: BoxedOutcome) -> FinishResult
         requires in_work { has_take (shown self.old).journal job.position ≡ true }
         requires job { ForTerms (shown self.old).terms
             (λ T. IsJob T (shown self.old).journal job.position job.claim job.acc) }
@@ -91,7 +88,8 @@ pub trait SerialGate: Growing {
             (at T (shown self.new))) }
         ensures lawful { IsLawful (shown self.new) }
         ensures claim { IfOk result (λ recorded. recorded.claim ≡ job.claim) }
-        ensures back { IfErr result (λ refused. (refused.1 ≡ job) × (refused.2 ≡ outcome)) };
+        ensures back { IfErr result
+            (λ refused. (refused.value.job ≡ job) × (refused.value.outcome ≡ outcome)) };
 
     /// Stops the gate, as `GateState::stop` does.
     fn stop(&mut self)
@@ -117,7 +115,7 @@ impl<'t> SerialGate for GateState<'t> {
         self.journal()
     }
 
-    fn offer(&mut self, offer: Offer) -> Result<Accepted, (OfferFault, Offer)> {
+    fn offer(&mut self, offer: Offer) -> OfferResult {
         self.offer(offer)
     }
 
@@ -129,11 +127,7 @@ impl<'t> SerialGate for GateState<'t> {
         self.take()
     }
 
-    fn finish(
-        &mut self,
-        job: Job,
-        outcome: BoxedOutcome,
-    ) -> Result<Recorded, (FinishFault, Job, BoxedOutcome)> {
+    fn finish(&mut self, job: Job, outcome: BoxedOutcome) -> FinishResult {
         self.finish(job, outcome)
     }
 
@@ -156,7 +150,7 @@ impl<V: SerialGate> SerialGate for Box<V> {
         (**self).journal()
     }
 
-    fn offer(&mut self, offer: Offer) -> Result<Accepted, (OfferFault, Offer)> {
+    fn offer(&mut self, offer: Offer) -> OfferResult {
         (**self).offer(offer)
     }
 
@@ -168,11 +162,7 @@ impl<V: SerialGate> SerialGate for Box<V> {
         (**self).take()
     }
 
-    fn finish(
-        &mut self,
-        job: Job,
-        outcome: BoxedOutcome,
-    ) -> Result<Recorded, (FinishFault, Job, BoxedOutcome)> {
+    fn finish(&mut self, job: Job, outcome: BoxedOutcome) -> FinishResult {
         (**self).finish(job, outcome)
     }
 

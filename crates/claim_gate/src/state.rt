@@ -15,10 +15,11 @@ ghost use Rattle.claim_gate.specs.Parts.{at};
 ghost use Rattle.claim_gate.specs.Replies.{offer_reply, end_reply, take_reply, finish_reply, IsFiled, HasClaims, IsOver, IsWorkOf, first_journal};
 ghost use Rattle.claim_gate.specs.Shared.{InTurn, IsLawful, IsOrdered};
 
+use crate::answer::{FinishResult, OfferResult, Refused};
 use crate::counts::Counts;
 use crate::fault::{EndFault, FinishFault, OfferFault, TakeFault};
 use crate::intakes::Intakes;
-use crate::job::Job;
+use crate::job::{DecidedJob, Job};
 use crate::offer::Offer;
 use crate::reply::{Accepted, Ended, Recorded, Taken};
 use crate::terms::Terms;
@@ -122,7 +123,7 @@ impl<'t> GateState<'t> {
     }
 
     /// Offers a claim, which is accepted if it is its provider's next one. Returns the offer where it is refused.
-    pub fn offer(&mut self, offer: Offer) -> Result<Accepted, (OfferFault, Offer)>
+    pub fn offer(&mut self, offer: Offer) -> OfferResult
         requires filed { ForTerms self.old.terms (λ T. IsFiled T offer) }
         requires in_order { InTurn self.old offer.provider }
         ensures reply { ForTerms self.old.terms
@@ -130,23 +131,32 @@ impl<'t> GateState<'t> {
             (at T self.new)) }
         ensures lawful { IsLawful self.new }
         ensures leads { LeadsTo self.old self.new }
-        ensures back { IfErr result (λ refused. refused.1 ≡ offer) }
+        ensures back { IfErr result (λ refused. refused.value ≡ offer) }
         ensures refused { OnErr result (self.new ≡ self.old) }
     {
         if self.stopped {
-            return Err((OfferFault::Stopped, offer));
+            return Err(Refused {
+                fault: OfferFault::Stopped,
+                value: offer,
+            });
         }
         if self.closed {
-            return Err((OfferFault::Closed, offer));
+            return Err(Refused {
+                fault: OfferFault::Closed,
+                value: offer,
+            });
         }
         let expected = self.intakes.accepted_count(offer.provider);
         if offer.place != expected {
-            return Err((OfferFault::OutOfTurn { expected }, offer));
+            return Err(Refused {
+                fault: OfferFault::OutOfTurn { expected },
+                value: offer,
+            });
         }
         self.accept(offer)
     }
 
-    fn accept(&mut self, offer: Offer) -> Result<Accepted, (OfferFault, Offer)>
+    fn accept(&mut self, offer: Offer) -> OfferResult
         requires runs { self.old.stopped ≡ false }
         requires open_yet { closed self.old.journal ≡ false }
         requires filed { ForTerms self.old.terms (λ T. IsFiled T offer) }
@@ -158,14 +168,17 @@ impl<'t> GateState<'t> {
             (at T self.new)) }
         ensures lawful { IsLawful self.new }
         ensures leads { LeadsTo self.old self.new }
-        ensures back { IfErr result (λ refused. refused.1 ≡ offer) }
+        ensures back { IfErr result (λ refused. refused.value ≡ offer) }
         ensures refused { OnErr result (self.new ≡ self.old) }
     {
         // proof: each call keeps the journal valid, and an acceptance in turn keeps the order of the files.
         gate_keeps_lawful();
         acceptance_stays_in_order();
         if self.journal.reserve(2).is_err() {
-            return Err((OfferFault::OutOfMemory, offer));
+            return Err(Refused {
+                fault: OfferFault::OutOfMemory,
+                value: offer,
+            });
         }
         let Offer {
             provider,
@@ -181,7 +194,10 @@ impl<'t> GateState<'t> {
                 place,
                 claim,
             };
-            return Err((OfferFault::OutOfMemory, offer));
+            return Err(Refused {
+                fault: OfferFault::OutOfMemory,
+                value: offer,
+            });
         }
         self.intakes.accept(provider);
         append(&mut self.journal, Event::Accept { provider, place });
@@ -266,11 +282,7 @@ impl<'t> GateState<'t> {
     }
 
     /// Records the outcome of a job and returns the job's claim. Returns the job and the outcome where they are refused.
-    pub fn finish(
-        &mut self,
-        job: Job,
-        outcome: BoxedOutcome,
-    ) -> Result<Recorded, (FinishFault, Job, BoxedOutcome)>
+    pub fn finish(&mut self, job: Job, outcome: BoxedOutcome) -> FinishResult
         requires in_work { has_take self.old.journal job.position ≡ true }
         requires job { ForTerms self.old.terms
             (λ T. IsJob T self.old.journal job.position job.claim job.acc) }
@@ -284,23 +296,26 @@ impl<'t> GateState<'t> {
           journal = self.old.journal ++ events.Decide job.position outcome ∷ [];
         }) }
         ensures claim { IfOk result (λ recorded. recorded.claim ≡ job.claim) }
-        ensures back { IfErr result (λ refused. (refused.1 ≡ job) × (refused.2 ≡ outcome)) }
+        ensures back { IfErr result
+            (λ refused. (refused.value.job ≡ job) × (refused.value.outcome ≡ outcome)) }
         ensures refused { OnErr result (self.new ≡ self.old) }
     {
         if self.stopped {
-            return Err((FinishFault::Stopped, job, outcome));
+            return Err(Refused {
+                fault: FinishFault::Stopped,
+                value: DecidedJob { job, outcome },
+            });
         }
         if self.lanes.is_decided(job.position) {
-            return Err((FinishFault::AlreadyDecided, job, outcome));
+            return Err(Refused {
+                fault: FinishFault::AlreadyDecided,
+                value: DecidedJob { job, outcome },
+            });
         }
         self.record(job, outcome)
     }
 
-    fn record(
-        &mut self,
-        job: Job,
-        outcome: BoxedOutcome,
-    ) -> Result<Recorded, (FinishFault, Job, BoxedOutcome)>
+    fn record(&mut self, job: Job, outcome: BoxedOutcome) -> FinishResult
         requires runs { self.old.stopped ≡ false }
         requires once { has_decision self.old.journal job.position ≡ false }
         requires in_work { has_take self.old.journal job.position ≡ true }
@@ -316,18 +331,25 @@ impl<'t> GateState<'t> {
           journal = self.old.journal ++ events.Decide job.position outcome ∷ [];
         }) }
         ensures claim { IfOk result (λ recorded. recorded.claim ≡ job.claim) }
-        ensures back { IfErr result (λ refused. (refused.1 ≡ job) × (refused.2 ≡ outcome)) }
+        ensures back { IfErr result
+            (λ refused. (refused.value.job ≡ job) × (refused.value.outcome ≡ outcome)) }
         ensures refused { OnErr result (self.new ≡ self.old) }
     {
         // proof: each call keeps the journal valid.
         gate_keeps_lawful();
         let left = after(job.acc, outcome.outcome()).unwrap();
         if self.journal.reserve(1).is_err() {
-            return Err((FinishFault::OutOfMemory, job, outcome));
+            return Err(Refused {
+                fault: FinishFault::OutOfMemory,
+                value: DecidedJob { job, outcome },
+            });
         }
         let position = job.position;
         if self.lanes.decide(position, left).is_err() {
-            return Err((FinishFault::OutOfMemory, job, outcome));
+            return Err(Refused {
+                fault: FinishFault::OutOfMemory,
+                value: DecidedJob { job, outcome },
+            });
         }
         self.decisions += 1;
         append(&mut self.journal, Event::Decide { position, outcome });
