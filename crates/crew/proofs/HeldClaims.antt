@@ -1,5 +1,6 @@
 -- The claims in work that a worker holds stay in work in each later state of the gate.
-use Rattle.std.proofs.Common.{◌≡◌, ℕ, true, List, [], ◌∷◌, ◌++◌, map, sym, ap, subst, ◌∙◌, append_assoc}
+use Rattle.std.proofs.Common.{◌≡◌, ℕ, true, List, [], ◌∷◌, ◌++◌, map, Result, Ok, Err, sym, ap, subst, ◌∙◌, append_assoc}
+use Rattle.std.specs.Prelude.{IfOk}
 use Rattle.std.specs.List.{All}
 use Rattle.std.proofs.lemmas.Bool.{or_left}
 use Rattle.std.proofs.lemmas.List.Elements.{All-map, All-weaker}
@@ -8,7 +9,7 @@ use Rattle.settlement.specs.Claim.{IsClaimOf}
 use Rattle.settlement.specs.Settlement.{outcome}
 use Rattle.settlement.specs.declared.outcome.Outcome.{Outcome}
 use Rattle.dtable.specs.Plan.{PlanParts}
-use Rattle.journal.specs.Events.{is_take, has_take}
+use Rattle.journal.specs.Events.{has_decision, is_decide, is_take, has_take}
 use Rattle.journal.specs.Gate.{Continues, LeadsTo}
 use Rattle.journal.specs.Laws.{JobsAreStable}
 use Rattle.journal.specs.Settled.{outcome_of}
@@ -16,8 +17,11 @@ use Rattle.journal.specs.declared.event.Event.{Event}
 use Rattle.claim_gate.specs.Parts.{GateParts}
 use Rattle.claim_gate.specs.declared.job.Job.{Job}
 use Rattle.claim_gate.proofs.Sharing.{job_stays}
-use Rattle.crew.specs.Sharing.{IsInWork, IsSettledIn, settled_by}
-use Rattle.crew.specs.declared.worker.DecidedJob.{DecidedJob}
+use Rattle.claim_gate.specs.Shared.{Known}
+use Rattle.crew.specs.Sharing.{IsInWork, IsRecordedIn, IsSettledIn, settled_by}
+use Rattle.crew.specs.declared.shared.Onward.{Onward}
+use Rattle.crew.specs.declared.worker.TakenJobs.{TakenJobs}
+use Rattle.claim_gate.specs.declared.job.DecidedJob.{DecidedJob}
 
 -- a position that is taken stays taken
 taken_stays : (J K : List Event) (position : ℕ) → Continues J K → has_take J position ≡ true → has_take K position ≡ true
@@ -45,6 +49,22 @@ all_in_work_stay stay a b jobs leads all = All-weaker (IsInWork a) (IsInWork b) 
 
 pub all_settled_stay : JobsAreStable → (a b : GateParts) (settled : List DecidedJob) → LeadsTo a b → All (IsSettledIn a) settled → All (IsSettledIn b) settled
 all_settled_stay stay a b settled leads all = All-weaker (IsSettledIn a) (IsSettledIn b) (λ one s. settled_stays stay a b one leads s) settled all
+
+-- a decision that is recorded stays recorded
+pub recorded_stays : (a b : GateParts) (settled : DecidedJob) → LeadsTo a b → IsRecordedIn a settled → IsRecordedIn b settled
+recorded_stays a b settled leads is =
+    let on = leads.journal in
+    let position = settled.job.position in
+    ap (λ w. has_decision w position) on.whole ∙ list_any-append (is_decide position) a.journal on.rest
+    ∙ or_left (has_decision a.journal position) (has_decision on.rest position) is
+
+pub all_recorded_stay : (a b : GateParts) (settled : List DecidedJob) → LeadsTo a b → All (IsRecordedIn a) settled → All (IsRecordedIn b) settled
+all_recorded_stay a b settled leads all = All-weaker (IsRecordedIn a) (IsRecordedIn b) (λ one is. recorded_stays a b one leads is) settled all
+
+pub all_recorded_beside : {P E : Type 0} (known : P → Known) (a : GateParts) (settled : List DecidedJob) (answer : Result (Onward TakenJobs P) E)
+    → All (IsRecordedIn a) settled → IfOk answer (λ r. LeadsTo a (known r.pass).seen) → IfOk answer (λ r. All (IsRecordedIn (known r.pass).seen) settled)
+all_recorded_beside known a settled (Ok r) all leads = all_recorded_stay a (known r.pass).seen settled leads all
+all_recorded_beside known a settled (Err exit) all leads = tt
 
 -- claims in work with their outcomes under the plan are settled claims in work
 pub all_settled : (gate : GateParts) (plan : PlanParts) (jobs : List Job) → plan ≡ gate.terms.plan → All (IsInWork gate) jobs → All (IsSettledIn gate) (map (settled_by plan) jobs)

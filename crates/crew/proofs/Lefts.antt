@@ -6,14 +6,16 @@ use Rattle.dtable.specs.declared.table.InputData.{InputData}
 use Rattle.intake_csv.specs.Laws.{BeginLike, GivenRowHasTheClaim, NoRecordsNoRows, StartHasTheRows}
 use Rattle.intake_csv.specs.Rows.{GivesRow, IsAtStart, RowsLeft, claim_in, claims_among}
 use Rattle.faults.specs.declared.file_fault.RowFault.{RowFault}
+use Rattle.intake_csv.specs.declared.records.Stage.TheVariants.{Over}
 use Rattle.intake_csv.specs.declared.rows.Row.{Row}
 use Rattle.intake_csv.specs.declared.rows.Row.TheVariants.{Good, Bad}
 use Rattle.claim_gate.specs.Terms.{AreClaimsOf, IsTermsOf, TermsParts, ForTerms}
 use Rattle.journal.specs.Terms.{Terms, claims_of}
 use Rattle.claim_gate.specs.Parts.{GateParts}
 use Rattle.claim_gate.specs.Replies.{HasClaims}
-use Rattle.crew.specs.Reading.{AreLeft, AreNext, ReadsAhead}
+use Rattle.crew.specs.Reading.{AreLeft, HasRead, HasReadAll, IsAtRecord, IsToOffer}
 use Rattle.crew.specs.Sharing.{HasAccepted}
+use Rattle.crew.specs.declared.intake.Intake.{Intake}
 
 -- the claims at a place are those of the text at the place
 at_place : (names : List InputData) (texts : List (List ℕ)) (files : List (List Claim)) (i : ℕ) → AllZip (AreClaimsOf names) texts files → i < length texts
@@ -103,19 +105,11 @@ left_none law parts T provider count left terms least most none h =
       count_is = sym h.counted ∙ ap length (sym all);
     }
 
--- between two records of a provider's file `count` claims are read, and all claims before the place that is expected next
--- are accepted
-pub record IsAtOffer (terms : TermsParts) (seen : GateParts) (provider count expected : ℕ) (left : RowsLeft) : Type 0 where
-  pub of_terms : seen.terms ≡ terms
-  pub claims : ForTerms terms (λ T. AreLeft T provider count left)
-  pub has_taken : HasAccepted seen provider expected
-  pub reached : count ≤ expected
-  pub place : left.place ≡ count
-  pub fewer : left.place < left.number
-
-pub first_offer : StartHasTheRows → (parts : TermsParts) (seen : GateParts) (provider : ℕ) (left : RowsLeft) → seen.terms ≡ parts → 1 ≤ provider → provider ≤ length parts.files
-    → IsAtStart parts.plan.names (get_or parts.files (provider - 1) []) left → IsAtOffer parts seen provider 0 0 left
-first_offer law parts seen provider left of_terms least most start = record {
+-- at the first record no claim is read
+pub first_record : StartHasTheRows → (parts : TermsParts) (seen : GateParts) (provider : ℕ) (left : RowsLeft) → seen.terms ≡ parts → 1 ≤ provider
+    → provider ≤ length parts.files → IsAtStart parts.plan.names (get_or parts.files (provider - 1) []) left
+    → IsAtRecord parts seen (record { provider = provider; rows = left; count = 0; expected = 0 })
+first_record law parts seen provider left of_terms least most start = record {
   of_terms = of_terms;
   claims = λ T is. left_first law parts T provider left is least most start;
   has_taken = omega arith;
@@ -124,71 +118,83 @@ first_offer law parts seen provider left of_terms least most start = record {
   fewer = omega (arith, start.place, start.number);
 }
 
--- this also holds after claims that were read ahead, once all claims before a later place are accepted
-pub after_offers : (terms : TermsParts) (seen later : GateParts) (provider count expected next : ℕ) (old new : RowsLeft) (claims : List Claim)
-    → IsAtOffer terms seen provider count expected old → ReadsAhead old new claims → later.terms ≡ terms → count + length claims ≤ next
-    → HasAccepted later provider next → IsAtOffer terms later provider (count + length claims) next new
-after_offers terms seen later provider count expected next old new claims h read of_terms following has_taken = record {
-  of_terms = of_terms;
-  claims = λ T is. (read.next T provider count (h.claims T is)).1;
-  has_taken = has_taken;
-  reached = following;
-  place = omega (arith, read.place, h.place);
-  fewer = read.fewer h.fewer;
-}
+-- after a refused record the intake is at the next record
+pub after_refused : GivenRowHasTheClaim → (terms : TermsParts) (seen : GateParts) (intake : Intake) (new : RowsLeft) (number : ℕ) (fault : RowFault)
+    → GivesRow intake.rows new (Bad number fault) → IsAtRecord terms seen intake → HasRead terms seen intake (record intake { rows = new })
+after_refused law terms seen intake new number fault gives h =
+    let shorter = ap length gives.next in
+    record {
+      at = record {
+        of_terms = h.of_terms;
+        claims = λ T is. left_refused law T intake.provider intake.count intake.rows new number fault (h.claims T is) gives;
+        has_taken = h.has_taken;
+        reached = h.reached;
+        place = omega (arith, gives.place, h.place);
+        fewer = omega (arith, gives.place, gives.number, h.fewer);
+      };
+      same = refl;
+      fewer = omega (arith, shorter);
+    }
 
--- at first nothing is read ahead
-pub none_read : (left : RowsLeft) → ReadsAhead left left []
-none_read left = record {
-  next = λ T provider count h. (tt, subst (λ n. AreLeft T provider n left) (omega arith) h);
-  place = omega arith;
-  fewer = λ h. h;
-}
+-- after the last record the intake is at the end of the file
+pub after_last : (terms : TermsParts) (seen : GateParts) (intake : Intake) (new : RowsLeft) → intake.rows.records ≡ [] → new ≡ record intake.rows { stage = Over }
+    → IsAtRecord terms seen intake → HasReadAll terms seen intake (record intake { rows = new })
+after_last terms seen intake new none over h = rw over (record {
+  at = record {
+    of_terms = h.of_terms;
+    claims = λ T is. let left = h.claims T is in record { front = left.front; rows = left.rows; are_rows = left.are_rows; whole = left.whole; counted = left.counted };
+    has_taken = h.has_taken;
+    reached = h.reached;
+    place = h.place;
+    fewer = h.fewer;
+  };
+  same = refl;
+  none = none;
+})
 
--- consecutive claims remain consecutive with the next one appended
-next_more : (T : Terms) (provider place : ℕ) (claims : List Claim) (claim : Claim) → AreNext T provider place claims
-    → slice_get (claims_of T provider) (place + length claims) ≡ Some claim → AreNext T provider place (claims ++ claim ∷ [])
-next_more T provider place [] claim next at = (subst (λ n. slice_get (claims_of T provider) n ≡ Some claim) (omega arith) at, tt)
-next_more T provider place (first ∷ rest) claim next at = (
-  next.0,
-  next_more T provider (place + 1) rest claim next.1 (subst (λ n. slice_get (claims_of T provider) n ≡ Some claim) (omega arith) at),
-)
-
-module _ (law : GivenRowHasTheClaim) where
-  -- one more record is read, which is refused
-  pub refused_read : (old mid new : RowsLeft) (claims : List Claim) (number : ℕ) (fault : RowFault) → ReadsAhead old mid claims
-      → GivesRow mid new (Bad number fault) → ReadsAhead old new claims
-  refused_read old mid new claims number fault h gives = record {
-    next = λ T provider count left. let both = h.next T provider count left in
-        (both.0, left_refused law T provider (count + length claims) mid new number fault both.1 gives);
+module _ (law : GivenRowHasTheClaim) (intake : Intake) (new : RowsLeft) (number place : ℕ) (claim : Claim) (gives : GivesRow intake.rows new (Good number place claim)) where
+  -- after a claim, and once all claims before a later place are accepted, the intake is at the next record
+  after_claim : (terms : TermsParts) (seen later : GateParts) (next : ℕ) → IsAtRecord terms seen intake → later.terms ≡ terms → intake.count < next
+      → HasAccepted later intake.provider next → IsAtRecord terms later (record { provider = intake.provider; rows = new; count = intake.count + 1; expected = next })
+  after_claim terms seen later next h of_terms reached has_taken = record {
+    of_terms = of_terms;
+    claims = λ T is. left_after law T intake.provider intake.count intake.rows new number place claim (h.claims T is) gives;
+    has_taken = has_taken;
+    reached = omega (arith, reached);
     place = omega (arith, gives.place, h.place);
-    fewer = λ within. let before = h.fewer within in omega (arith, gives.place, gives.number, before);
+    fewer = omega (arith, gives.place, gives.number, h.fewer);
   }
 
-  -- one more record is read, which is a claim
-  pub claim_read : (old mid new : RowsLeft) (claims : List Claim) (number place : ℕ) (claim : Claim) → ReadsAhead old mid claims
-      → GivesRow mid new (Good number place claim) → ReadsAhead old new (claims ++ claim ∷ [])
-  claim_read old mid new claims number place claim h gives =
-      let size = length-append claims (claim ∷ []) in
-      record {
-        next = λ T provider count left. let both = h.next T provider count left in (
-          next_more T provider count claims claim both.0 (next_claim law T provider (count + length claims) mid new number place claim both.1 gives),
-          subst (λ n. AreLeft T provider n new) (omega (arith, size)) (left_after law T provider (count + length claims) mid new number place claim both.1 gives),
-        );
-        place = omega (arith, gives.place, h.place, size);
-        fewer = λ within. let before = h.fewer within in omega (arith, gives.place, gives.number, before);
-      }
+  fewer : length new.records < length intake.rows.records
+  fewer =
+      let shorter = ap length gives.next in
+      omega (arith, shorter)
 
--- after one more claim the place is less than 2^64, since it is at most the record's number
-pub room_more : (old mid new : RowsLeft) (claims : List Claim) (number place : ℕ) (claim : Claim) → ReadsAhead old mid claims → GivesRow mid new (Good number place claim)
-    → number < 2 ^ 64 → old.place < old.number → old.place < 2 ^ 64 → old.place + length (claims ++ claim ∷ []) < 2 ^ 64
-room_more old mid new claims number place claim h gives fits within small =
-    let size = length-append claims (claim ∷ []) in
-    let before = h.fewer within in
-    let reported = gives.is_row.0 in
-    omega (arith, size, before, reported, fits, h.place)
+  -- a claim that is accepted already is skipped
+  pub skipped : (terms : TermsParts) (seen : GateParts) → intake.count < intake.expected → IsAtRecord terms seen intake
+      → HasRead terms seen intake (record { provider = intake.provider; rows = new; count = intake.count + 1; expected = intake.expected })
+  skipped terms seen earlier h = record {
+    at = after_claim terms seen seen intake.expected h h.of_terms earlier h.has_taken;
+    same = refl;
+    fewer = fewer;
+  }
 
--- the first of consecutive claims is at the given place, and the others come after it
-pub next_first : (T : Terms) (provider place : ℕ) (claims rest : List Claim) (claim : Claim) → claims ≡ claim ∷ rest → AreNext T provider place claims
-    → (slice_get (claims_of T provider) place ≡ Some claim) × AreNext T provider (place + 1) rest
-next_first T provider place claims rest claim is next = subst (AreNext T provider place) is next
+  -- the place after a claim is less than 2^64, since it is at most the record's number
+  pub room : number < 2 ^ 64 → intake.rows.place ≡ intake.count → intake.rows.place < intake.rows.number → intake.count + 1 < 2 ^ 64
+  room fits place_is within =
+      let reported = gives.is_row.0 in
+      omega (arith, reported, fits, place_is, within)
+
+  -- another claim is to be offered
+  pub to_offer : (terms : TermsParts) (seen : GateParts) → intake.count + 1 < 2 ^ 64 → intake.expected ≤ intake.count → IsAtRecord terms seen intake
+      → IsToOffer terms seen intake (record { provider = intake.provider; rows = new; count = intake.count + 1; expected = intake.expected })
+      (record { provider = intake.provider; place = intake.count; claim = claim })
+  to_offer terms seen small later h = record {
+    same = refl;
+    own = refl;
+    filed = λ T is. next_claim law T intake.provider intake.count intake.rows new number place claim (h.claims T is) gives;
+    taken = omega (arith, h.has_taken, h.reached, later);
+    room = small;
+    after = λ seen_later next of_terms reached has_taken. after_claim terms seen seen_later next h of_terms reached has_taken;
+    fewer = fewer;
+  }

@@ -16,13 +16,15 @@ use Rattle.journal.specs.declared.event.Event.TheVariants.{Accept, End, Take, De
 use Rattle.journal.specs.Leading.{leads_further}
 use Rattle.claim_gate.specs.Parts.{at}
 use Rattle.claim_gate.specs.Shared.{Known, HadSection, Went}
-use Rattle.claim_gate.specs.Replies.{end_reply, finish_reply, offer_refusal, offer_reply}
+use Rattle.claim_gate.specs.Replies.{end_reply, finish_refusal, finish_reply, offer_refusal, offer_reply}
 use Rattle.claim_gate.specs.declared.fault.EndFault.{EndFault}
 use Rattle.claim_gate.specs.declared.fault.EndFault.TheVariants as end
 use Rattle.claim_gate.specs.declared.fault.FinishFault.{FinishFault}
 use Rattle.claim_gate.specs.declared.fault.FinishFault.TheVariants as finish
 use Rattle.claim_gate.specs.declared.fault.OfferFault.{OfferFault}
 use Rattle.claim_gate.specs.declared.fault.OfferFault.TheVariants as offer
+use Rattle.claim_gate.specs.declared.answer.Refused.{Refused}
+use Rattle.claim_gate.specs.declared.job.DecidedJob.{DecidedJob}
 use Rattle.claim_gate.specs.declared.job.Job.{Job}
 use Rattle.claim_gate.specs.declared.offer.Offer.{Offer}
 use Rattle.claim_gate.specs.declared.reply.Accepted.{Accepted}
@@ -48,17 +50,13 @@ end_reported : (reply : Result Ended EndFault) (fault : EndFault) (expected : �
     → end_reply reply ≡ EndReply.OutOfTurn expected
 end_reported reply fault expected err is = ap end_reply err ∙ ap (λ f. end_reply (Err f)) is
 
-offer_reported : (reply : Result Accepted (OfferFault × Offer)) (fault same : OfferFault) (back : Offer) → reply ≡ Err (fault, back)
-    → fault ≡ same → offer_reply reply ≡ offer_refusal same
-offer_reported reply fault same back err is = ap offer_reply err ∙ ap offer_refusal is
+offer_reported : (reply : Result Accepted (Refused OfferFault Offer)) (refused : Refused OfferFault Offer) (fault : OfferFault) → reply ≡ Err refused
+    → refused.fault ≡ fault → offer_reply reply ≡ offer_refusal fault
+offer_reported reply refused fault err is = ap offer_reply err ∙ ap offer_refusal is
 
-decided_reported : (reply : Result Recorded (FinishFault × Job × Outcome)) (fault : FinishFault) (job : Job) (o : Outcome) → reply ≡ Err (fault, job, o)
-    → fault ≡ finish.AlreadyDecided → finish_reply reply ≡ FinishReply.AlreadyDecided
-decided_reported reply fault job o err is = ap finish_reply err ∙ ap (λ f. finish_reply (Err (f, job, o))) is
-
-stopped_reported : (reply : Result Recorded (FinishFault × Job × Outcome)) (fault : FinishFault) (job : Job) (o : Outcome) → reply ≡ Err (fault, job, o)
-    → fault ≡ finish.Stopped → finish_reply reply ≡ FinishReply.Stopped
-stopped_reported reply fault job o err is = ap finish_reply err ∙ ap (λ f. finish_reply (Err (f, job, o))) is
+finish_reported : (reply : Result Recorded (Refused FinishFault DecidedJob)) (refused : Refused FinishFault DecidedJob) (fault : FinishFault) → reply ≡ Err refused
+    → refused.fault ≡ fault → finish_reply reply ≡ finish_refusal fault
+finish_reported reply refused fault err is = ap finish_reply err ∙ ap finish_refusal is
 
 module _ (parts : TermsParts) (there : ¬ ForTerms parts (λ T. ⊥)) where
   -- a test holds if it holds for each reading of the terms
@@ -144,12 +142,12 @@ module _ (parts : TermsParts) (there : ¬ ForTerms parts (λ T. ⊥)) where
         (omega arith, omega (arith, more))
 
     -- if another claim is the provider's next one, it is a later one
-    pub goes_on : (provider place expected : ℕ) (reply : Result Accepted (OfferFault × Offer)) (fault : OfferFault) (back : Offer) → reply ≡ Err (fault, back)
-        → fault ≡ offer.OutOfTurn expected → HasAccepted before.seen provider place → Went (λ old new. Offers old provider place (offer_reply reply) new) after
+    pub goes_on : (provider place expected : ℕ) (reply : Result Accepted (Refused OfferFault Offer)) (refused : Refused OfferFault Offer) → reply ≡ Err refused
+        → refused.fault ≡ offer.OutOfTurn expected → HasAccepted before.seen provider place → Went (λ old new. Offers old provider place (offer_reply reply) new) after
         → (place < expected) × HasAccepted after.seen provider expected
-    goes_on provider place expected reply fault back err is_fault has w =
+    goes_on provider place expected reply refused err is_fault has w =
         let all : ForTerms parts (λ T. Offers (at T after.found) provider place (OfferReply.OutOfTurn expected) (at T after.seen)) = λ T is.
-        subst (λ r. Offers (at T after.found) provider place r (at T after.seen)) (offer_reported reply fault (offer.OutOfTurn expected) back err is_fault)
+        subst (λ r. Offers (at T after.found) provider place r (at T after.seen)) (offer_reported reply refused (offer.OutOfTurn expected) err is_fault)
         (went (λ old new. Offers old provider place (offer_reply reply) new) w T is) in
         let later = lies_below place expected (λ T is.
         let r = all T is in
@@ -160,15 +158,15 @@ module _ (parts : TermsParts) (there : ¬ ForTerms parts (λ T. ⊥)) where
         (later, omega (arith, within))
 
     -- no more claims are accepted if the offer is refused because the gate is closed or stopped
-    pub closed_to : (provider place : ℕ) (reply : Result Accepted (OfferFault × Offer)) (fault : OfferFault) (back : Offer) → reply ≡ Err (fault, back)
-        → fault ≡ offer.Closed → Went (λ old new. Offers old provider place (offer_reply reply) new) after → is_shut after.seen ≡ true
-    closed_to provider place reply fault back err is_fault w = closed_shut (λ T is.
-        subst (λ r. Offers (at T after.found) provider place r (at T after.seen)) (offer_reported reply fault offer.Closed back err is_fault) (w T is))
+    pub closed_to : (provider place : ℕ) (reply : Result Accepted (Refused OfferFault Offer)) (refused : Refused OfferFault Offer) → reply ≡ Err refused
+        → refused.fault ≡ offer.Closed → Went (λ old new. Offers old provider place (offer_reply reply) new) after → is_shut after.seen ≡ true
+    closed_to provider place reply refused err is_fault w = closed_shut (λ T is.
+        subst (λ r. Offers (at T after.found) provider place r (at T after.seen)) (offer_reported reply refused offer.Closed err is_fault) (w T is))
 
-    pub stopped_to : (provider place : ℕ) (reply : Result Accepted (OfferFault × Offer)) (fault : OfferFault) (back : Offer) → reply ≡ Err (fault, back)
-        → fault ≡ offer.Stopped → Went (λ old new. Offers old provider place (offer_reply reply) new) after → is_shut after.seen ≡ true
-    stopped_to provider place reply fault back err is_fault w = stopped_shut (λ T is.
-        subst (λ r. Offers (at T after.found) provider place r (at T after.seen)) (offer_reported reply fault offer.Stopped back err is_fault) (w T is))
+    pub stopped_to : (provider place : ℕ) (reply : Result Accepted (Refused OfferFault Offer)) (refused : Refused OfferFault Offer) → reply ≡ Err refused
+        → refused.fault ≡ offer.Stopped → Went (λ old new. Offers old provider place (offer_reply reply) new) after → is_shut after.seen ≡ true
+    stopped_to provider place reply refused err is_fault w = stopped_shut (λ T is.
+        subst (λ r. Offers (at T after.found) provider place r (at T after.seen)) (offer_reported reply refused offer.Stopped err is_fault) (w T is))
 
     -- the caller has seen a finished journal if `take` returns `Over`
     pub over_seen : Went (λ old new. Takes old TakeReply.Over new) after → ForTerms after.seen.terms (λ T. Finished T after.seen.journal)
@@ -200,18 +198,18 @@ module _ (parts : TermsParts) (there : ¬ ForTerms parts (λ T. ⊥)) where
         let journal : after.seen.journal ≡ after.found.journal ++ Decide position o ∷ [] = ap (λ (g : GateAt). g.journal) r.2 in
         rw journal (any_now (is_decide position) after.found.journal (Decide position o) (eq-eqb position position refl)))
 
-    pub already_seen : (position : ℕ) (o : Outcome) (reply : Result Recorded (FinishFault × Job × Outcome)) (fault : FinishFault) (job : Job) (back : Outcome)
-        → reply ≡ Err (fault, job, back) → fault ≡ finish.AlreadyDecided → Went (λ old new. Finishes old position o (finish_reply reply) new) after
+    pub already_seen : (position : ℕ) (o : Outcome) (reply : Result Recorded (Refused FinishFault DecidedJob)) (refused : Refused FinishFault DecidedJob)
+        → reply ≡ Err refused → refused.fault ≡ finish.AlreadyDecided → Went (λ old new. Finishes old position o (finish_reply reply) new) after
         → has_decision after.seen.journal position ≡ true
-    already_seen position o reply fault job back err is_fault w = holds (has_decision after.seen.journal position) (λ T is.
+    already_seen position o reply refused err is_fault w = holds (has_decision after.seen.journal position) (λ T is.
         let r : Finishes (at T after.found) position o FinishReply.AlreadyDecided (at T after.seen) =
-        subst (λ r. Finishes (at T after.found) position o r (at T after.seen)) (decided_reported reply fault job back err is_fault)
+        subst (λ r. Finishes (at T after.found) position o r (at T after.seen)) (finish_reported reply refused finish.AlreadyDecided err is_fault)
         (went (λ old new. Finishes old position o (finish_reply reply) new) w T is) in
         ap (λ (g : GateAt). has_decision g.journal position) r.2 ∙ r.1)
 
     -- the caller has seen the gate stopped if the decision is refused for this reason
-    pub refused_seen : (position : ℕ) (o : Outcome) (reply : Result Recorded (FinishFault × Job × Outcome)) (fault : FinishFault) (job : Job) (back : Outcome)
-        → reply ≡ Err (fault, job, back) → fault ≡ finish.Stopped → Went (λ old new. Finishes old position o (finish_reply reply) new) after
+    pub refused_seen : (position : ℕ) (o : Outcome) (reply : Result Recorded (Refused FinishFault DecidedJob)) (refused : Refused FinishFault DecidedJob)
+        → reply ≡ Err refused → refused.fault ≡ finish.Stopped → Went (λ old new. Finishes old position o (finish_reply reply) new) after
         → after.seen.stopped ≡ true
-    refused_seen position o reply fault job back err is_fault w = stopped_seen (λ T is.
-        subst (λ r. Finishes (at T after.found) position o r (at T after.seen)) (stopped_reported reply fault job back err is_fault) (w T is))
+    refused_seen position o reply refused err is_fault w = stopped_seen (λ T is.
+        subst (λ r. Finishes (at T after.found) position o r (at T after.seen)) (finish_reported reply refused finish.Stopped err is_fault) (w T is))

@@ -1,16 +1,18 @@
 -- What the threads of a run have seen of the gate that they share.
-use Rattle.std.specs.Prelude.{◌≡◌, ◌<◌, ◌≤◌, ◌||◌, ℕ, Bool, true, Option, Some, None, length}
+use Rattle.std.specs.Prelude.{◌≡◌, ◌⊎◌, ◌<◌, ◌≤◌, ◌||◌, ℕ, Bool, true, List, Option, Some, None, length}
 use Rattle.std.specs.List.{All}
 use Rattle.dtable.specs.Plan.{PlanParts}
 use Rattle.journal.specs.Settled.{outcome_of}
 use Rattle.crew.specs.declared.worker.TakenJobs.{TakenJobs}
 use Rattle.crew.specs.declared.worker.TakenJobs.TheVariants as gathered
-use Rattle.crew.specs.declared.worker.DecidedJob.{DecidedJob}
+use Rattle.claim_gate.specs.declared.job.DecidedJob.{DecidedJob}
 use Rattle.settlement.specs.Claim.{IsClaimOf}
-use Rattle.journal.specs.Events.{IsJob, closed, has_end, places, has_take}
+use Rattle.journal.specs.Events.{IsJob, closed, has_decision, has_end, places, has_take}
+use Rattle.journal.specs.Gate.{TakeReply, Takes}
 use Rattle.journal.specs.Lawful.{Finished}
 use Rattle.claim_gate.specs.Terms.{ForTerms}
 use Rattle.claim_gate.specs.Parts.{GateParts}
+use Rattle.claim_gate.specs.Shared.{Known, Went}
 use Rattle.claim_gate.specs.declared.job.Job.{Job}
 use Rattle.crew.specs.declared.worker.Task.{Task}
 use Rattle.crew.specs.declared.worker.Task.TheVariants.{Over, Work, NothingReady}
@@ -32,33 +34,45 @@ abbrev pub GoesOnAt : GateParts → ℕ → ℕ → Option ℕ → Type 0
 GoesOnAt gate provider place (Some next) = (place < next) × HasAccepted gate provider next
 GoesOnAt gate provider place None = is_shut gate ≡ true
 
--- where an intake continues after this number of claims: all claims before this place, which is no earlier, are accepted, or
--- no more will be
-abbrev pub GoesOnAfter : GateParts → ℕ → ℕ → Option ℕ → Type 0
-GoesOnAfter gate provider count (Some next) = (count ≤ next) × HasAccepted gate provider next
-GoesOnAfter gate provider count None = is_shut gate ≡ true
-
 -- the job's claim is taken and in work, and it has the fields that the plan needs
 pub record IsInWork (gate : GateParts) (job : Job) : Type 0 where
   pub in_work : has_take gate.journal job.position ≡ true
   pub is_job : ForTerms gate.terms (λ T. IsJob T gate.journal job.position job.claim job.acc)
   pub fields : IsClaimOf gate.terms.plan job.claim
 
--- the next step of a worker is right: it leaves only after a finished journal, and it decides only a claim in work
-abbrev pub IsTask : GateParts → Task → Type 0
-IsTask gate Over = ForTerms gate.terms (λ T. Finished T gate.journal)
-IsTask gate (Work job) = IsInWork gate job
-IsTask gate NothingReady = Unit {0}
+-- the caller's last section was a `take` of a gate that is not stopped, and on which no claim was ready
+abbrev pub FoundNothing : Known → Type 0
+FoundNothing known = Went (λ old new. Takes old TakeReply.NothingReady new) known
+
+-- the next step of a worker is right: it leaves only after a finished journal, it decides only a claim in work, and it asks
+-- again only where no claim was ready
+abbrev pub IsTask : Known → Task → Type 0
+IsTask known Over = ForTerms known.seen.terms (λ T. Finished T known.seen.journal)
+IsTask known (Work job) = IsInWork known.seen job
+IsTask known NothingReady = FoundNothing known
 
 -- a claim in work with its outcome
 pub record IsSettledIn (gate : GateParts) (settled : DecidedJob) : Type 0 where
   pub in_work : IsInWork gate settled.job
   pub value : settled.outcome ≡ outcome_of gate.terms.plan settled.job.claim settled.job.acc
 
+-- the decision of the claim is in the journal
+abbrev pub IsRecordedIn : GateParts → DecidedJob → Type 0
+IsRecordedIn gate settled = has_decision gate.journal settled.job.position ≡ true
+
+-- the maximum number of claims that a worker takes in one turn
+abbrev pub takes_limit : ℕ
+takes_limit = 2048
+
+-- the claims of a worker's turn are in work, and the turn ended because it had its maximum of claims or no claim was ready
+pub record AreTaken (known : Known) (jobs : List Job) : Type 0 where
+  pub in_work : All (IsInWork known.seen) jobs
+  pub whole : (length jobs ≡ takes_limit) ⊎ FoundNothing known
+
 -- the result of a worker's calls in one turn: a finished journal, or claims in work
-abbrev pub IsGathered : GateParts → TakenJobs → Type 0
-IsGathered gate gathered.Over = ForTerms gate.terms (λ T. Finished T gate.journal)
-IsGathered gate (gathered.Jobs jobs) = All (IsInWork gate) jobs.items
+abbrev pub IsGathered : Known → TakenJobs → Type 0
+IsGathered known gathered.Over = ForTerms known.seen.terms (λ T. Finished T known.seen.journal)
+IsGathered known (gathered.Jobs jobs) = AreTaken known jobs.items
 
 -- a claim with its outcome under a plan
 abbrev pub settled_by : PlanParts → Job → DecidedJob

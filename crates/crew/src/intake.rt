@@ -1,17 +1,19 @@
 //! The work of an intake thread, which reads a provider's file and offers its claims.
-ghost use Rattle.std.specs.Prelude.{◌≡◌, ◌<◌, ◌≤◌, ◌+◌, ◌-◌, ◌^◌, true, false, [], length, get_or, slice_get, Some, IfOk, IfErr, IsTrue};
+ghost use Rattle.std.specs.Prelude.{◌≡◌, ◌<◌, ◌≤◌, ◌+◌, ◌-◌, ◌^◌, true, [], length, get_or, IfOk, IfErr};
 ghost use Rattle.intake_csv.specs.Rows.{IsAtStart};
 ghost use Rattle.claim_gate.specs.Terms.{ForTerms};
 ghost use Rattle.claim_gate.specs.Replies.{HasClaims, IsFiled};
 ghost use Rattle.claim_gate.specs.Shared.{InTurn};
 ghost use Rattle.crew.specs.Passes.{GoesOn, LeavesWith};
-ghost use Rattle.crew.specs.Reading.{AreNext, ReadsAhead};
-ghost use Rattle.crew.specs.Sharing.{GoesOnAt, GoesOnAfter, HasAccepted, is_past};
+ghost use Rattle.crew.specs.Reading.{IsAtRecord, IsStep, Reads};
+ghost use Rattle.crew.specs.Sharing.{GoesOnAt, HasAccepted, is_past};
 ghost use Rattle.faults.specs.declared.run_fault.RunFault.TheVariants.{OutOfMemory};
 
-use crate::hints::{Hints, Preparation};
+use crate::shared::{Exit, Onward, Shared};
 use crate::stopping::ATTEMPTS;
-use claim_gate::{BoxedClaim, EndFault, Gate, Offer, OfferFault, Terms, claim_lists_exist};
+use claim_gate::{
+    BoxedClaim, EndFault, Gate, Offer, OfferFault, Refused, Served, Terms, claim_lists_exist,
+};
 use faults::RunFault;
 use gate_batching::{BatchTurn, OFFERS_LIMIT};
 use intake_csv::{
@@ -20,227 +22,253 @@ use intake_csv::{
 use std::alloc::{AllocError, Global};
 use std::sync::Wait;
 
-/// Claims that an intake has read and not offered yet, and whether the file has no more records.
-struct ReadAhead {
-    claims: Vec<BoxedClaim>,
-    is_last: bool,
+/// An intake between two records of its provider's file.
+#[derive(Drop)]
+struct Intake<'t> {
+    provider: usize,
+    rows: Rows<'t>,
+    /// The number of claims that it has read.
+    count: usize,
+    /// The place from which claims are offered. Those before it are accepted already.
+    expected: usize,
+}
+
+/// The next step of an intake.
+enum Step {
+    /// It reads the next record.
+    NextRecord,
+    /// It ends the provider, since no record is left.
+    EndProvider,
+    /// It leaves, since no more claims are accepted.
+    Leave,
+}
+
+/// The result of reading a record.
+enum Record {
+    /// The record is a claim, which is to be offered.
+    Claim(Offer),
+    /// The record is refused, or its claim is accepted already.
+    Skipped,
+    /// No record is left.
+    Missing,
 }
 
 /// Does the work of the intake with this number, from 0, which offers the claims of its provider's file. Where claims are
 /// accepted in the order of the files, intake 0 offers those of all files, and the others do nothing.
-pub(crate) fn run_intake_part<R: Wait, G: Gate, P: Preparation<G>>(
-    rt: &R,
-    alloc: Global,
-    terms: &Terms,
-    gate: &G,
+pub(crate) fn run_intake_part<R: Wait, G: Gate>(
+    shared: &Shared<R, G>,
     pass: G::Pass,
     number: usize,
-    hints: &Hints<P>,
-) -> Result<G::Pass, (RunFault, G::Pass)>
-    requires own { G.has_pass gate.now pass }
-    requires terms { (G.known pass).seen.terms ≡ terms.now }
-    requires within { number < length terms.now.files }
-    ensures goes_on { IfOk result (GoesOn (G.has_pass gate.now) G.known pass) }
-    ensures leaves { IfErr result (LeavesWith (G.has_pass gate.now) G.known pass) }
+) -> Result<G::Pass, Exit<G::Pass>>
+    requires own { G.has_pass shared.now.gate.now pass }
+    requires terms { (G.known pass).seen.terms ≡ shared.now.terms.now }
+    requires within { number < length shared.now.terms.now.files }
+    ensures goes_on { IfOk result (GoesOn (G.has_pass shared.now.gate.now) G.known pass) }
+    ensures leaves { IfErr result
+        (LeavesWith (G.has_pass shared.now.gate.now) G.is_worn G.known pass) }
 {
     // proof: the number of files has an upper limit, so `number + 1` does not overflow.
-    let _files = terms.files();
-    if !terms.in_order() {
-        return run_intake(rt, alloc, terms, gate, pass, number + 1, hints);
+    let _files = shared.terms.files();
+    if !shared.terms.in_order() {
+        return run_intake(shared, pass, number + 1);
     }
     if number != 0 {
         return Ok(pass);
     }
-    run_intakes(rt, alloc, terms, gate, pass, hints)
+    run_intakes(shared, pass)
 }
 
 // Offers the claims of all files, one file after another. Each file begins after the end of the file before it.
-fn run_intakes<R: Wait, G: Gate, P: Preparation<G>>(
-    rt: &R,
-    alloc: Global,
-    terms: &Terms,
-    gate: &G,
+fn run_intakes<R: Wait, G: Gate>(
+    shared: &Shared<R, G>,
     mut pass: G::Pass,
-    hints: &Hints<P>,
-) -> Result<G::Pass, (RunFault, G::Pass)>
-    requires own { G.has_pass gate.now pass }
-    requires terms { (G.known pass).seen.terms ≡ terms.now }
-    ensures goes_on { IfOk result (GoesOn (G.has_pass gate.now) G.known pass) }
-    ensures leaves { IfErr result (LeavesWith (G.has_pass gate.now) G.known pass) }
+) -> Result<G::Pass, Exit<G::Pass>>
+    requires own { G.has_pass shared.now.gate.now pass }
+    requires terms { (G.known pass).seen.terms ≡ shared.now.terms.now }
+    ensures goes_on { IfOk result (GoesOn (G.has_pass shared.now.gate.now) G.known pass) }
+    ensures leaves { IfErr result
+        (LeavesWith (G.has_pass shared.now.gate.now) G.is_worn G.known pass) }
 {
-    let files = terms.files().len();
+    let files = shared.terms.files().len();
     'files: for place in 0..files {
-        pass = match run_intake(rt, alloc, terms, gate, pass, place + 1, hints) {
+        pass = match run_intake(shared, pass, place + 1) {
             Ok(pass) => pass,
-            Err(left) => return Err(left),
+            Err(exit) => return Err(exit),
         };
     }
     Ok(pass)
 }
 
-/// Offers the claims of a provider's file in order, and ends the provider after the last one. Claims that other callers have
-/// already offered are skipped. The records for one turn are read before it begins, while another thread has its turn.
-fn run_intake<R: Wait, G: Gate, P: Preparation<G>>(
-    rt: &R,
-    alloc: Global,
-    terms: &Terms,
-    gate: &G,
+// Offers the claims of a provider's file in order, and ends the provider after the last one. Claims that other callers have
+// already offered are skipped.
+fn run_intake<R: Wait, G: Gate>(
+    shared: &Shared<R, G>,
     mut pass: G::Pass,
     provider: usize,
-    hints: &Hints<P>,
-) -> Result<G::Pass, (RunFault, G::Pass)>
-    requires own { G.has_pass gate.now pass }
-    requires terms { (G.known pass).seen.terms ≡ terms.now }
+) -> Result<G::Pass, Exit<G::Pass>>
+    requires own { G.has_pass shared.now.gate.now pass }
+    requires terms { (G.known pass).seen.terms ≡ shared.now.terms.now }
     requires in_order { InTurn (G.known pass).seen provider }
     requires least { 1 ≤ provider }
-    requires most { provider ≤ length terms.now.files }
-    ensures goes_on { IfOk result (GoesOn (G.has_pass gate.now) G.known pass) }
+    requires most { provider ≤ length shared.now.terms.now.files }
+    ensures goes_on { IfOk result (GoesOn (G.has_pass shared.now.gate.now) G.known pass) }
     ensures past { IfOk result (λ p. is_past (G.known p).seen provider ≡ true) }
-    ensures leaves { IfErr result (LeavesWith (G.has_pass gate.now) G.known pass) }
+    ensures leaves { IfErr result
+        (LeavesWith (G.has_pass shared.now.gate.now) G.is_worn G.known pass) }
 {
     // proof: the rows that a new reader has left are those of the file.
     reader_begins_with_all_rows();
     no_records_give_no_rows();
-    let mut rows = match open(alloc, terms, provider) {
+    let rows = match open(shared.alloc, shared.terms, provider) {
         Ok(rows) => rows,
-        Err(fault) => return Err((fault, pass)),
+        Err(fault) => return Err(Exit { fault, pass }),
     };
-    let mut count = 0;
-    let mut expected = 0;
-    loop {
-        let Ok(ahead) = read_ahead(alloc, &mut rows) else {
-            return Err((RunFault::OutOfMemory, pass));
+    let mut intake = Intake {
+        provider,
+        rows,
+        count: 0,
+        expected: 0,
+    };
+    'turns: loop {
+        let onward = match offer_turn(shared, pass, &mut intake) {
+            Ok(onward) => onward,
+            Err(exit) => return Err(exit),
         };
-        let ReadAhead { claims, is_last } = ahead;
-        let following = count + claims.len();
-        (expected, pass) = match offer_all(
-            rt, terms, gate, pass, provider, count, expected, claims, hints,
-        ) {
-            Ok((Some(next), pass)) => (next, pass),
-            Ok((None, pass)) => return Ok(pass),
-            Err(left) => return Err(left),
-        };
-        count = following;
-        if is_last {
-            return end(rt, terms, gate, pass, provider, count);
+        let Onward { value, pass: back } = onward;
+        match value {
+            Step::NextRecord => pass = back,
+            Step::EndProvider => return end(shared, back, provider, intake.count),
+            Step::Leave => return Ok(back),
         }
     }
 }
 
-fn read_ahead(alloc: Global, rows: &mut Rows<'_>) -> Result<ReadAhead, AllocError>
-    ensures ahead { IfOk result (λ ahead. ReadsAhead rows.old rows.new ahead.claims.items) }
-    ensures room { rows.old.place < rows.old.number → rows.old.place < 2 ^ 64 → IfOk result
-        (λ ahead. rows.old.place + length ahead.claims.items < 2 ^ 64) }
-    ensures last { IfOk result (λ ahead. IsTrue ahead.is_last → rows.new.records ≡ []) }
-    ensures fewer { IfOk result
-        (λ ahead. ahead.is_last ≡ false → length rows.new.records < length rows.old.records) }
+// Reads up to `OFFERS_LIMIT` records in one turn, and offers each claim before it reads the next record.
+fn offer_turn<R: Wait, G: Gate>(
+    shared: &Shared<R, G>,
+    mut pass: G::Pass,
+    intake: &mut Intake<'_>,
+) -> Result<Onward<Step, G::Pass>, Exit<G::Pass>>
+    requires own { G.has_pass shared.now.gate.now pass }
+    requires in_order { InTurn (G.known pass).seen intake.old.provider }
+    requires at { IsAtRecord shared.now.terms.now (G.known pass).seen intake.old }
+    ensures goes_on { IfOk result
+        (λ r. GoesOn (G.has_pass shared.now.gate.now) G.known pass r.pass) }
+    ensures step { IfOk result
+        (λ r. IsStep shared.now.terms.now (G.known r.pass).seen intake.old intake.new r.value) }
+    ensures leaves { IfErr result
+        (LeavesWith (G.has_pass shared.now.gate.now) G.is_worn G.known pass) }
 {
-    // proof: a reader returns the first of the rows that it has left.
-    given_row_has_the_claim();
-    let mut claims = Vec::with_capacity(alloc, OFFERS_LIMIT as usize)?;
+    let turn = shared.turns.begin_offers(shared.rt);
     'records: for record in 0..OFFERS_LIMIT {
-        let Some(row) = rows.next()? else {
-            return Ok(ReadAhead {
-                claims,
-                is_last: true,
-            });
+        let onward = match offer_next(shared, pass, intake, &turn) {
+            Ok(onward) => onward,
+            Err(exit) => return Err(exit),
         };
-        let Row::Good { claim, .. } = row else {
-            continue;
-        };
-        claims.push(BoxedClaim::new(alloc, claim)?)?;
+        let Onward { value, pass: back } = onward;
+        match value {
+            Step::NextRecord => pass = back,
+            Step::EndProvider => {
+                return Ok(Onward {
+                    value: Step::EndProvider,
+                    pass: back,
+                });
+            }
+            Step::Leave => {
+                return Ok(Onward {
+                    value: Step::Leave,
+                    pass: back,
+                });
+            }
+        }
     }
-    Ok(ReadAhead {
-        claims,
-        is_last: false,
+    Ok(Onward {
+        value: Step::NextRecord,
+        pass,
     })
 }
 
-// Offers these claims of a provider in one turn. The first of them is at place `first`, and those before `expected` are
-// skipped. Returns the place that the gate expects next, or `None` where no more claims are accepted. Without claims, for
-// example when all records were refused, it neither waits for a turn nor calls the gate.
-fn offer_all<R: Wait, G: Gate, P: Preparation<G>>(
-    rt: &R,
-    terms: &Terms,
-    gate: &G,
+// Reads a record, and offers its claim where it is not accepted already.
+fn offer_next<R: Wait, G: Gate>(
+    shared: &Shared<R, G>,
     pass: G::Pass,
-    provider: usize,
-    first: usize,
-    expected: usize,
-    claims: Vec<BoxedClaim>,
-    hints: &Hints<P>,
-) -> Result<(Option<usize>, G::Pass), (RunFault, G::Pass)>
-    requires own { G.has_pass gate.now pass }
-    requires terms { (G.known pass).seen.terms ≡ terms.now }
-    requires filed { ForTerms terms.now (λ T. AreNext T provider first claims.items) }
-    requires in_order { InTurn (G.known pass).seen provider }
-    requires taken { HasAccepted (G.known pass).seen provider expected }
-    requires reached { first ≤ expected }
-    requires room { first + length claims.items < 2 ^ 64 }
-    ensures goes_on { IfOk result (λ r. GoesOn (G.has_pass gate.now) G.known pass r.1) }
-    ensures next { IfOk result
-        (λ r. GoesOnAfter (G.known r.1).seen provider (first + length claims.items) r.0) }
-    ensures leaves { IfErr result (LeavesWith (G.has_pass gate.now) G.known pass) }
-{
-    if claims.is_empty() {
-        return Ok((Some(expected), pass));
-    }
-    let turn = hints.turns.begin_offers(rt);
-    let pass = match hints.preparation.prepare(rt, gate, pass, claims.as_slice()) {
-        Ok(pass) => pass,
-        Err(left) => return Err(left),
-    };
-    offer_each(
-        rt, terms, gate, pass, provider, first, expected, claims, &turn,
-    )
-}
-
-// Offers the claims in a turn that has begun, as `offer_all` does.
-fn offer_each<R: Wait, G: Gate>(
-    rt: &R,
-    terms: &Terms,
-    gate: &G,
-    mut pass: G::Pass,
-    provider: usize,
-    first: usize,
-    mut expected: usize,
-    claims: Vec<BoxedClaim>,
+    intake: &mut Intake<'_>,
     turn: &BatchTurn,
-) -> Result<(Option<usize>, G::Pass), (RunFault, G::Pass)>
-    requires own { G.has_pass gate.now pass }
-    requires terms { (G.known pass).seen.terms ≡ terms.now }
-    requires filed { ForTerms terms.now (λ T. AreNext T provider first claims.items) }
-    requires in_order { InTurn (G.known pass).seen provider }
-    requires taken { HasAccepted (G.known pass).seen provider expected }
-    requires reached { first ≤ expected }
-    requires room { first + length claims.items < 2 ^ 64 }
-    ensures goes_on { IfOk result (λ r. GoesOn (G.has_pass gate.now) G.known pass r.1) }
-    ensures next { IfOk result
-        (λ r. GoesOnAfter (G.known r.1).seen provider (first + length claims.items) r.0) }
-    ensures leaves { IfErr result (LeavesWith (G.has_pass gate.now) G.known pass) }
+) -> Result<Onward<Step, G::Pass>, Exit<G::Pass>>
+    requires own { G.has_pass shared.now.gate.now pass }
+    requires in_order { InTurn (G.known pass).seen intake.old.provider }
+    requires at { IsAtRecord shared.now.terms.now (G.known pass).seen intake.old }
+    ensures goes_on { IfOk result
+        (λ r. GoesOn (G.has_pass shared.now.gate.now) G.known pass r.pass) }
+    ensures step { IfOk result
+        (λ r. IsStep shared.now.terms.now (G.known r.pass).seen intake.old intake.new r.value) }
+    ensures leaves { IfErr result
+        (LeavesWith (G.has_pass shared.now.gate.now) G.is_worn G.known pass) }
 {
-    let mut place = first;
-    for claim in claims {
-        let offered = Offer {
-            provider,
-            place,
-            claim,
-        };
-        place += 1;
-        if offered.place < expected {
-            continue;
-        }
-        turn.count_offer();
-        (expected, pass) = match offer(rt, terms, gate, pass, offered) {
-            Ok((Some(next), pass)) => (next, pass),
-            Ok((None, pass)) => return Ok((None, pass)),
-            Err(left) => return Err(left),
-        };
-    }
-    Ok((Some(expected), pass))
+    let record = match read_record(shared.alloc, intake) {
+        Ok(record) => record,
+        Err(AllocError) => return Err(Exit {
+            fault: RunFault::OutOfMemory,
+            pass,
+        }),
+    };
+    let offered = match record {
+        Record::Claim(offered) => offered,
+        Record::Skipped => return Ok(Onward {
+            value: Step::NextRecord,
+            pass,
+        }),
+        Record::Missing => return Ok(Onward {
+            value: Step::EndProvider,
+            pass,
+        }),
+    };
+    let onward = match offer(shared, pass, offered, turn) {
+        Ok(onward) => onward,
+        Err(exit) => return Err(exit),
+    };
+    let Onward { value, pass } = onward;
+    let Some(next) = value else {
+        return Ok(Onward {
+            value: Step::Leave,
+            pass,
+        });
+    };
+    intake.expected = next;
+    Ok(Onward {
+        value: Step::NextRecord,
+        pass,
+    })
 }
 
-fn open<'t>(alloc: Global, terms: &'t Terms, provider: usize) -> Result<Rows<'t>, RunFault>
+// Reads a record. Its claim is to be offered unless it is accepted already.
+fn read_record(alloc: Global, intake: &mut Intake<'_>) -> Result<Record, AllocError>
+    requires place { intake.old.rows.place ≡ intake.old.count }
+    requires fewer { intake.old.rows.place < intake.old.rows.number }
+    ensures { IfOk result (Reads intake.old intake.new) }
+{
+    // proof: a reader returns the first of the rows that it has left.
+    given_row_has_the_claim();
+    let Some(row) = intake.rows.next()? else {
+        return Ok(Record::Missing);
+    };
+    let Row::Good { claim, .. } = row else {
+        return Ok(Record::Skipped);
+    };
+    let claim = BoxedClaim::new(alloc, claim)?;
+    let place = intake.count;
+    intake.count += 1;
+    if place < intake.expected {
+        return Ok(Record::Skipped);
+    }
+    Ok(Record::Claim(Offer {
+        provider: intake.provider,
+        place,
+        claim,
+    }))
+}
+
+fn open<'t>(alloc: Global, terms: &Terms<'t>, provider: usize) -> Result<Rows<'t>, RunFault>
     requires least { 1 ≤ provider }
     requires most { provider ≤ length terms.now.files }
     ensures rows { IfOk result
@@ -256,66 +284,97 @@ fn open<'t>(alloc: Global, terms: &'t Terms, provider: usize) -> Result<Rows<'t>
 // Offers a claim, in at most `ATTEMPTS` calls. Returns the place of the provider's next claim, or `None` where no more claims
 // are accepted.
 fn offer<R: Wait, G: Gate>(
-    rt: &R,
-    terms: &Terms,
-    gate: &G,
+    shared: &Shared<R, G>,
     mut pass: G::Pass,
     mut offer: Offer,
-) -> Result<(Option<usize>, G::Pass), (RunFault, G::Pass)>
-    requires own { G.has_pass gate.now pass }
-    requires terms { (G.known pass).seen.terms ≡ terms.now }
-    requires filed { ForTerms terms.now (λ T. IsFiled T offer) }
+    turn: &BatchTurn,
+) -> Result<Onward<Option<usize>, G::Pass>, Exit<G::Pass>>
+    requires own { G.has_pass shared.now.gate.now pass }
+    requires terms { (G.known pass).seen.terms ≡ shared.now.terms.now }
+    requires filed { ForTerms shared.now.terms.now (λ T. IsFiled T offer) }
     requires in_order { InTurn (G.known pass).seen offer.provider }
     requires taken { HasAccepted (G.known pass).seen offer.provider offer.place }
     requires room { offer.place + 1 < 2 ^ 64 }
-    ensures goes_on { IfOk result (λ r. GoesOn (G.has_pass gate.now) G.known pass r.1) }
-    ensures next { IfOk result (λ r. GoesOnAt (G.known r.1).seen offer.provider offer.place r.0) }
-    ensures leaves { IfErr result (LeavesWith (G.has_pass gate.now) G.known pass) }
+    ensures goes_on { IfOk result
+        (λ r. GoesOn (G.has_pass shared.now.gate.now) G.known pass r.pass) }
+    ensures next { IfOk result
+        (λ r. GoesOnAt (G.known r.pass).seen offer.provider offer.place r.value) }
+    ensures leaves { IfErr result
+        (LeavesWith (G.has_pass shared.now.gate.now) G.is_worn G.known pass) }
 {
     // proof: the claim files have lists of claims, so a statement about all such lists is not empty.
-    claim_lists_exist(terms);
+    claim_lists_exist(shared.terms);
     let following = offer.place + 1;
     'tries: for _ in 0..ATTEMPTS {
-        let (accepted, after) = match gate.offer(rt, pass, offer) {
-            Ok(answer) => answer,
-            Err((_, pass, _)) => return Err((RunFault::Worn, pass)),
+        let served = match shared.gate.offer(shared.rt, pass, offer) {
+            Ok(served) => served,
+            Err(worn) => return Err(Exit {
+                fault: RunFault::Worn,
+                pass: worn.pass,
+            }),
         };
-        match accepted {
-            Ok(_) => return Ok((Some(following), after)),
-            Err((OfferFault::OutOfTurn { expected }, _)) => return Ok((Some(expected), after)),
-            Err((OfferFault::Closed, _)) => return Ok((None, after)),
-            Err((OfferFault::Stopped, _)) => return Ok((None, after)),
-            Err((OfferFault::OutOfMemory, back)) => (pass, offer) = (after, back),
+        let Served { reply, pass: after } = served;
+        let refused = match reply {
+            Ok(_) => {
+                turn.count_offer();
+                return Ok(Onward {
+                    value: Some(following),
+                    pass: after,
+                });
+            }
+            Err(refused) => refused,
+        };
+        let Refused { fault, value } = refused;
+        match fault {
+            OfferFault::OutOfTurn { expected } => return Ok(Onward {
+                value: Some(expected),
+                pass: after,
+            }),
+            OfferFault::Closed => return Ok(Onward {
+                value: None,
+                pass: after,
+            }),
+            OfferFault::Stopped => return Ok(Onward {
+                value: None,
+                pass: after,
+            }),
+            OfferFault::OutOfMemory => (pass, offer) = (after, value),
         }
     }
-    Err((RunFault::OutOfMemory, pass))
+    Err(Exit {
+        fault: RunFault::OutOfMemory,
+        pass,
+    })
 }
 
 // Ends a provider of which all `count` claims are accepted, in at most `ATTEMPTS` calls.
 fn end<R: Wait, G: Gate>(
-    rt: &R,
-    terms: &Terms,
-    gate: &G,
+    shared: &Shared<R, G>,
     mut pass: G::Pass,
     provider: usize,
     count: usize,
-) -> Result<G::Pass, (RunFault, G::Pass)>
-    requires own { G.has_pass gate.now pass }
-    requires terms { (G.known pass).seen.terms ≡ terms.now }
-    requires claims { ForTerms terms.now (λ T. HasClaims T provider count) }
+) -> Result<G::Pass, Exit<G::Pass>>
+    requires own { G.has_pass shared.now.gate.now pass }
+    requires terms { (G.known pass).seen.terms ≡ shared.now.terms.now }
+    requires claims { ForTerms shared.now.terms.now (λ T. HasClaims T provider count) }
     requires taken { HasAccepted (G.known pass).seen provider count }
-    ensures goes_on { IfOk result (GoesOn (G.has_pass gate.now) G.known pass) }
+    ensures goes_on { IfOk result (GoesOn (G.has_pass shared.now.gate.now) G.known pass) }
     ensures past { IfOk result (λ p. is_past (G.known p).seen provider ≡ true) }
-    ensures leaves { IfErr result (LeavesWith (G.has_pass gate.now) G.known pass) }
+    ensures leaves { IfErr result
+        (LeavesWith (G.has_pass shared.now.gate.now) G.is_worn G.known pass) }
 {
     // proof: the claim files have lists of claims, so a statement about all such lists is not empty.
-    claim_lists_exist(terms);
+    claim_lists_exist(shared.terms);
     'tries: for _ in 0..ATTEMPTS {
-        let (ended, after) = match gate.end(rt, pass, provider, count) {
-            Ok(answer) => answer,
-            Err((_, pass)) => return Err((RunFault::Worn, pass)),
+        let served = match shared.gate.end(shared.rt, pass, provider, count) {
+            Ok(served) => served,
+            Err(worn) => return Err(Exit {
+                fault: RunFault::Worn,
+                pass: worn.pass,
+            }),
         };
-        match ended {
+        let Served { reply, pass: after } = served;
+        match reply {
             Ok(_) => return Ok(after),
             Err(EndFault::AlreadyEnded) => return Ok(after),
             Err(EndFault::Closed) => return Ok(after),
@@ -324,5 +383,8 @@ fn end<R: Wait, G: Gate>(
             Err(EndFault::OutOfTurn { .. }) => unreachable!(),
         }
     }
-    Err((RunFault::OutOfMemory, pass))
+    Err(Exit {
+        fault: RunFault::OutOfMemory,
+        pass,
+    })
 }

@@ -6,12 +6,12 @@
 //! `run_with` uses a gate of the caller's.
 //!
 //! Begin with `threads.rt`, which has the contracts of `run` and `run_with`; `intake.rt` and `worker.rt` have the work of the
-//! threads, and `hints.rt` has what makes it quicker.
+//! threads, and `shared.rt` has what all threads of a run use.
 #![tactic(auto)]
 
-mod hints;
 mod intake;
 mod least_fault;
+mod shared;
 mod stopping;
 mod threads;
 mod worker;

@@ -21,6 +21,6 @@ pub(crate) fn stop<R: Wait, G: Gate>(rt: &R, terms: &Terms, gate: &G, pass: G::P
     claim_lists_exist(terms);
     match gate.stop(rt, pass) {
         Ok(pass) => pass,
-        Err((_, pass)) => pass,
+        Err(worn) => worn.pass,
     }
 }

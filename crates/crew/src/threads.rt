@@ -1,20 +1,20 @@
 //! A run by an intake thread for each provider's file and the given number of workers.
-ghost use Rattle.std.specs.Prelude.{◌≡◌, ◌≢◌, ◌↔◌, ◌<◌, ◌≤◌, ◌+◌, true, IsTrue, length, IfOk, IfErr, OnOk};
+ghost use Rattle.std.specs.Prelude.{◌≡◌, ◌≢◌, ◌⊎◌, ◌↔◌, ◌<◌, ◌≤◌, ◌+◌, true, IsTrue, length, IfOk, IfErr, OnOk};
 ghost use Rattle.journal.specs.Lawful.{Finished};
 ghost use Rattle.journal.specs.Order.{IsInOrder};
 ghost use Rattle.claim_gate.specs.Terms.{ForTerms};
 ghost use Rattle.journal.specs.Gate.{LeadsTo};
-ghost use Rattle.crew.specs.Passes.{GoesOn, LeavesWith};
+ghost use Rattle.crew.specs.Passes.{GoesOn, HasEnded, LeavesWith};
 ghost use Rattle.crew.specs.Workers.{IsWorkerCount};
 ghost use Rattle.faults.specs.declared.run_fault.RunFault.TheVariants.{Workers, Stopped};
 
-use crate::hints::{Hints, NoPreparation, Prefetch, Preparation};
 use crate::intake::run_intake_part;
 use crate::least_fault::LeastFault;
+use crate::shared::{Exit, Shared};
 use crate::stopping::stop;
 use crate::worker::run_worker;
-use claim_gate::{Batch, Gate, GateState, LockedGate, SerialPrefetching, Terms, claim_lists_exist};
-use cutplan::{CutPlan, compile};
+use claim_gate::{Batch, Gate, GateState, LockedGate, SerialGate, Terms, claim_lists_exist};
+use cutplan::compile;
 use faults::RunFault;
 use gate_batching::GateBatching;
 use journal::finished_is_final;
@@ -86,7 +86,7 @@ fn run_after_new<S: Section + Drop + Sync, R: Threads + Wait + Sync>(
     pass: S::Pass,
 ) -> Result<S::Value, RunFault>
 where
-    S::Value: SerialPrefetching + Drop + Send + Sync,
+    S::Value: SerialGate + Drop + Send + Sync,
     S::Pass: Send + Drop,
     requires own { S.has_pass lock pass }
     requires terms { (S.Value.shown (S.seen pass)).terms ≡ terms.now }
@@ -99,11 +99,7 @@ where
     // proof: a finished journal is final.
     finished_is_final();
     let gate = LockedGate::over(lock);
-    let hints = Hints {
-        turns: GateBatching::new(),
-        preparation: Prefetch,
-    };
-    let pass = match run_on(rt, alloc, terms, workers, &gate, pass, &hints) {
+    let pass = match run_with(rt, alloc, terms, workers, &gate, pass) {
         Ok(pass) => pass,
         Err((fault, _)) => return Err(fault),
     };
@@ -125,6 +121,9 @@ where
 ///   its callers, unless its lock is worn. So the gate may be stopped after `Ok`, too.
 /// - `Worn`: the gate's lock has no ticket left.
 /// - `Stopped`: another caller has stopped the gate, and the pass has seen it stopped.
+///
+/// With every fault but `Workers`, no caller of the gate is kept waiting: the pass that comes back has seen the gate stopped,
+/// or that its lock is worn.
 pub fn run_with<R: Threads + Wait + Sync, G: Gate + Sync>(
     rt: &R,
     alloc: Global,
@@ -144,35 +143,8 @@ pub fn run_with<R: Threads + Wait + Sync, G: Gate + Sync>(
     ensures workers { OnOk result (IsWorkerCount workers) }
     ensures refused { IfErr result (λ e. (e.0 ≡ Workers) ↔ (¬ IsWorkerCount workers)) }
     ensures stopped { IfErr result (λ e. e.0 ≡ Stopped → (G.known e.1).seen.stopped ≡ true) }
-{
-    let hints = Hints {
-        turns: GateBatching::new(),
-        preparation: NoPreparation,
-    };
-    run_on(rt, alloc, terms, workers, gate, pass, &hints)
-}
-
-// Does what `run_with` does, with these hints.
-fn run_on<R: Threads + Wait + Sync, G: Gate + Sync, P: Preparation<G> + Sync>(
-    rt: &R,
-    alloc: Global,
-    terms: &Terms,
-    workers: usize,
-    gate: &G,
-    pass: G::Pass,
-    hints: &Hints<P>,
-) -> Result<G::Pass, (RunFault, G::Pass)>
-    requires own { G.has_pass gate.now pass }
-    requires terms { (G.known pass).seen.terms ≡ terms.now }
-    ensures own { IfOk result (λ p. G.has_pass gate.now p) }
-    ensures back { IfErr result (λ e. G.has_pass gate.now e.1) }
-    ensures seen { IfOk result (λ p. LeadsTo (G.known pass).seen (G.known p).seen) }
-    ensures seen_back { IfErr result (λ e. LeadsTo (G.known pass).seen (G.known e.1).seen) }
-    ensures finished { IfOk result
-        (λ p. ForTerms terms.now (λ T. Finished T (G.known p).seen.journal)) }
-    ensures workers { OnOk result (IsWorkerCount workers) }
-    ensures refused { IfErr result (λ e. (e.0 ≡ Workers) ↔ (¬ IsWorkerCount workers)) }
-    ensures stopped { IfErr result (λ e. e.0 ≡ Stopped → (G.known e.1).seen.stopped ≡ true) }
+    ensures ended { IfErr result (λ e. e.0 ≢ Workers →
+        ((G.known e.1).seen.stopped ≡ true) ⊎ G.is_worn e.1) }
 {
     if !may_have(workers) {
         return Err((RunFault::Workers, pass));
@@ -180,103 +152,128 @@ fn run_on<R: Threads + Wait + Sync, G: Gate + Sync, P: Preparation<G> + Sync>(
     let Ok(plan) = compile(alloc, terms.plan()) else {
         return Err((RunFault::OutOfMemory, stop(rt, terms, gate, pass)));
     };
-    let least = LeastFault::new();
-    match in_threads(rt, alloc, terms, &plan, workers, gate, pass, &least, hints) {
+    let shared = Shared {
+        rt,
+        alloc,
+        terms,
+        plan: &plan,
+        gate,
+        turns: GateBatching::new(),
+        least: LeastFault::new(),
+    };
+    match in_threads(&shared, pass, workers) {
         Ok(pass) => Ok(pass),
-        Err((own, pass)) => Err((least.least_with(own), pass)),
+        Err(Exit { fault, pass }) => Err((shared.least.least_with(fault), pass)),
     }
 }
 
-// Starts the threads, works, and waits for them. A thread's fault is noted in `least`, and the caller's own is returned.
-fn in_threads<R: Threads + Wait + Sync, G: Gate + Sync, P: Preparation<G> + Sync>(
-    rt: &R,
-    alloc: Global,
-    terms: &Terms,
-    plan: &CutPlan,
-    workers: usize,
-    gate: &G,
+// Starts the threads, works, and waits for them. A thread's fault is noted in `shared.least`, and the caller's own is returned.
+fn in_threads<R: Threads + Wait + Sync, G: Gate + Sync>(
+    shared: &Shared<R, G>,
     pass: G::Pass,
-    least: &LeastFault,
-    hints: &Hints<P>,
-) -> Result<G::Pass, (RunFault, G::Pass)>
-    requires own { G.has_pass gate.now pass }
-    requires terms { (G.known pass).seen.terms ≡ terms.now }
+    workers: usize,
+) -> Result<G::Pass, Exit<G::Pass>>
+    requires own { G.has_pass shared.now.gate.now pass }
+    requires terms { (G.known pass).seen.terms ≡ shared.now.terms.now }
     requires workers { IsWorkerCount workers }
-    requires plan { plan.now ≡ terms.now.plan }
-    ensures goes_on { IfOk result (GoesOn (G.has_pass gate.now) G.known pass) }
+    requires plan { shared.now.plan.now ≡ shared.now.terms.now.plan }
+    ensures goes_on { IfOk result (GoesOn (G.has_pass shared.now.gate.now) G.known pass) }
     ensures finished { IfOk result
-        (λ p. ForTerms terms.now (λ T. Finished T (G.known p).seen.journal)) }
-    ensures leaves { IfErr result (LeavesWith (G.has_pass gate.now) G.known pass) }
+        (λ p. ForTerms shared.now.terms.now (λ T. Finished T (G.known p).seen.journal)) }
+    ensures leaves { IfErr result
+        (LeavesWith (G.has_pass shared.now.gate.now) G.is_worn G.known pass) }
+    ensures ended { IfErr result (λ exit. HasEnded G.is_worn G.known exit.pass) }
 {
     // The calling thread has the last number, as an additional worker.
-    let threads = terms.files().len() + workers;
+    let threads = shared.terms.files().len() + workers;
     thread::scope(
         thread::scope_env(),
-        rt,
-        |scope| -> Result<G::Pass, (RunFault, G::Pass)>
-            requires { G.has_pass gate.now pass × ((G.known pass).seen.terms ≡ terms.now)
-                × (plan.now ≡ terms.now.plan) × (length terms.now.files ≤ threads) }
-            ensures goes_on { IfOk result (GoesOn (G.has_pass gate.entry.now) G.known pass) }
-            ensures finished { IfOk result
-                (λ p. ForTerms terms.entry.now (λ T. Finished T (G.known p).seen.journal)) }
-            ensures leaves { IfErr result (LeavesWith (G.has_pass gate.entry.now) G.known pass) }
+        shared.rt,
+        |scope| -> Result<G::Pass, Exit<G::Pass>>
+            requires { G.has_pass shared.now.gate.now pass
+                × ((G.known pass).seen.terms ≡ shared.now.terms.now)
+                × (shared.now.plan.now ≡ shared.now.terms.now.plan)
+                × (length shared.now.terms.now.files ≤ threads) }
+            ensures goes_on { IfOk result
+                (GoesOn (G.has_pass shared.entry.now.gate.now) G.known pass) }
+            ensures finished { IfOk result (λ p. ForTerms shared.entry.now.terms.now
+                (λ T. Finished T (G.known p).seen.journal)) }
+            ensures leaves { IfErr result
+                (LeavesWith (G.has_pass shared.entry.now.gate.now) G.is_worn G.known pass) }
+            ensures ended { IfErr result (λ exit. HasEnded G.is_worn G.known exit.pass) }
         {
             let mut own = pass;
             'threads: for number in 0..threads {
-                let (mine, theirs) = gate.split(own);
+                let (mine, theirs) = shared.gate.split(own);
                 let job = move ||
-                    requires { G.has_pass gate.now theirs
-                        × ((G.known theirs).seen.terms ≡ terms.now) × (plan.now ≡ terms.now.plan) }
+                    requires { G.has_pass shared.now.gate.now theirs
+                        × ((G.known theirs).seen.terms ≡ shared.now.terms.now)
+                        × (shared.now.plan.now ≡ shared.now.terms.now.plan) }
                 {
-                    if let Err((fault, _)) = run_thread(
-                        rt, alloc, terms, plan, gate, theirs, number, hints,
-                    ) {
-                        least.note(fault);
+                    if let Err(Exit { fault, .. }) = run_thread(shared, theirs, number) {
+                        shared.least.note(fault);
                     }
                 };
                 if scope.spawn(job).is_err() {
-                    least.note(RunFault::Thread);
-                    let stopped = stop(rt, terms, gate, mine);
-                    return run_thread(rt, alloc, terms, plan, gate, stopped, threads, hints);
+                    shared.least.note(RunFault::Thread);
+                    let stopped = stop(shared.rt, shared.terms, shared.gate, mine);
+                    return run_thread(shared, stopped, threads);
                 }
                 own = mine;
             }
-            run_thread(rt, alloc, terms, plan, gate, own, threads, hints)
+            run_thread(shared, own, threads)
         },
     )
 }
 
-// Does the work of the thread with this number: the first numbers are those of the intakes, the others are those of workers.
-// A thread that runs out of memory stops the gate.
-fn run_thread<R: Wait, G: Gate, P: Preparation<G>>(
-    rt: &R,
-    alloc: Global,
-    terms: &Terms,
-    plan: &CutPlan,
-    gate: &G,
+// Does the work of the thread with this number. A thread that runs out of memory stops the gate.
+fn run_thread<R: Wait, G: Gate>(
+    shared: &Shared<R, G>,
     pass: G::Pass,
     number: usize,
-    hints: &Hints<P>,
-) -> Result<G::Pass, (RunFault, G::Pass)>
-    requires own { G.has_pass gate.now pass }
-    requires terms { (G.known pass).seen.terms ≡ terms.now }
-    requires plan { plan.now ≡ terms.now.plan }
-    ensures goes_on { IfOk result (GoesOn (G.has_pass gate.now) G.known pass) }
-    ensures finished { IfOk result (λ p. length terms.now.files ≤ number → ForTerms terms.now
-        (λ T. Finished T (G.known p).seen.journal)) }
-    ensures leaves { IfErr result (LeavesWith (G.has_pass gate.now) G.known pass) }
+) -> Result<G::Pass, Exit<G::Pass>>
+    requires own { G.has_pass shared.now.gate.now pass }
+    requires terms { (G.known pass).seen.terms ≡ shared.now.terms.now }
+    requires plan { shared.now.plan.now ≡ shared.now.terms.now.plan }
+    ensures goes_on { IfOk result (GoesOn (G.has_pass shared.now.gate.now) G.known pass) }
+    ensures finished { IfOk result (λ p. length shared.now.terms.now.files ≤ number →
+        ForTerms shared.now.terms.now (λ T. Finished T (G.known p).seen.journal)) }
+    ensures leaves { IfErr result
+        (LeavesWith (G.has_pass shared.now.gate.now) G.is_worn G.known pass) }
+    ensures ended { IfErr result (λ exit. HasEnded G.is_worn G.known exit.pass) }
 {
-    let left = if number < terms.files().len() {
-        run_intake_part(rt, alloc, terms, gate, pass, number, hints)
-    } else {
-        run_worker(rt, alloc, terms, plan, gate, pass, &hints.turns)
+    let exit = match do_part(shared, pass, number) {
+        Ok(pass) => return Ok(pass),
+        Err(exit) => exit,
     };
-    match left {
-        Ok(pass) => Ok(pass),
-        Err((RunFault::OutOfMemory, pass)) => Err((
-            RunFault::OutOfMemory,
-            stop(rt, terms, gate, pass),
-        )),
-        Err(left) => Err(left),
+    let Exit { fault, pass } = exit;
+    match fault {
+        RunFault::OutOfMemory => Err(Exit {
+            fault: RunFault::OutOfMemory,
+            pass: stop(shared.rt, shared.terms, shared.gate, pass),
+        }),
+        other => Err(Exit { fault: other, pass }),
+    }
+}
+
+// Does the work of the intake or the worker with this number: the first numbers are those of the intakes.
+fn do_part<R: Wait, G: Gate>(
+    shared: &Shared<R, G>,
+    pass: G::Pass,
+    number: usize,
+) -> Result<G::Pass, Exit<G::Pass>>
+    requires own { G.has_pass shared.now.gate.now pass }
+    requires terms { (G.known pass).seen.terms ≡ shared.now.terms.now }
+    requires plan { shared.now.plan.now ≡ shared.now.terms.now.plan }
+    ensures goes_on { IfOk result (GoesOn (G.has_pass shared.now.gate.now) G.known pass) }
+    ensures finished { IfOk result (λ p. length shared.now.terms.now.files ≤ number →
+        ForTerms shared.now.terms.now (λ T. Finished T (G.known p).seen.journal)) }
+    ensures leaves { IfErr result
+        (LeavesWith (G.has_pass shared.now.gate.now) G.is_worn G.known pass) }
+{
+    if number < shared.terms.files().len() {
+        run_intake_part(shared, pass, number)
+    } else {
+        run_worker(shared, pass)
     }
 }

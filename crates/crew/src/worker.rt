@@ -6,15 +6,17 @@ ghost use Rattle.journal.specs.Events.{has_decision};
 ghost use Rattle.journal.specs.Lawful.{Finished};
 ghost use Rattle.claim_gate.specs.Terms.{ForTerms};
 ghost use Rattle.crew.specs.Passes.{GoesOn, LeavesWith};
-ghost use Rattle.crew.specs.Sharing.{IsGathered, IsInWork, IsSettledIn, IsTask, settled_by};
+ghost use Rattle.crew.specs.Sharing.{IsGathered, IsRecordedIn, IsSettledIn, IsTask, settled_by};
 
+use crate::shared::{Exit, Onward, Shared};
 use crate::stopping::ATTEMPTS;
 use claim_gate::{
-    BoxedClaim, BoxedOutcome, FinishFault, Gate, Job, Taken, Terms, claim_lists_exist,
+    BoxedClaim, BoxedOutcome, DecidedJob, FinishFault, Gate, Job, Refused, Served, Taken,
+    claim_lists_exist,
 };
 use cutplan::CutPlan;
 use faults::RunFault;
-use gate_batching::{BatchTurn, GateBatching, TAKES_LIMIT};
+use gate_batching::{BatchTurn, TAKES_LIMIT};
 use intake_csv::claims_have_the_plan_s_fields;
 use journal::jobs_are_stable;
 use settlement::Adjudicator;
@@ -39,55 +41,51 @@ enum TakenJobs {
     Jobs(Vec<Job>),
 }
 
-/// A decided claim whose outcome is not recorded yet.
-#[derive(Drop)]
-struct DecidedJob {
-    job: Job,
-    outcome: BoxedOutcome,
-}
-
 /// Takes and decides claims until the journal is finished. The claims of a turn are decided after it, while another thread has
 /// its turn.
 pub(crate) fn run_worker<R: Wait, G: Gate>(
-    rt: &R,
-    alloc: Global,
-    terms: &Terms,
-    plan: &CutPlan,
-    gate: &G,
+    shared: &Shared<R, G>,
     mut pass: G::Pass,
-    turns: &GateBatching,
-) -> Result<G::Pass, (RunFault, G::Pass)>
-    requires plan { plan.now ≡ terms.now.plan }
-    requires own { G.has_pass gate.now pass }
-    requires terms { (G.known pass).seen.terms ≡ terms.now }
-    ensures goes_on { IfOk result (GoesOn (G.has_pass gate.now) G.known pass) }
+) -> Result<G::Pass, Exit<G::Pass>>
+    requires plan { shared.now.plan.now ≡ shared.now.terms.now.plan }
+    requires own { G.has_pass shared.now.gate.now pass }
+    requires terms { (G.known pass).seen.terms ≡ shared.now.terms.now }
+    ensures goes_on { IfOk result (GoesOn (G.has_pass shared.now.gate.now) G.known pass) }
     ensures finished { IfOk result
-        (λ p. ForTerms terms.now (λ T. Finished T (G.known p).seen.journal)) }
-    ensures leaves { IfErr result (LeavesWith (G.has_pass gate.now) G.known pass) }
+        (λ p. ForTerms shared.now.terms.now (λ T. Finished T (G.known p).seen.journal)) }
+    ensures leaves { IfErr result
+        (LeavesWith (G.has_pass shared.now.gate.now) G.is_worn G.known pass) }
 {
     // proof: the plan is valid.
-    let _plan = terms.plan();
-    let Ok(mut adjudicator) = Adjudicator::new(alloc, plan) else {
-        return Err((RunFault::OutOfMemory, pass));
+    let _plan = shared.terms.plan();
+    let Ok(mut adjudicator) = Adjudicator::new(shared.alloc, shared.plan) else {
+        return Err(Exit {
+            fault: RunFault::OutOfMemory,
+            pass,
+        });
     };
-    let mut settled = Vec::new(alloc);
+    let mut settled = Vec::new(shared.alloc);
     let mut rests = 0;
-    for _ in rt.forever() {
-        let (gathered, back) = match take_turn(rt, alloc, terms, gate, pass, settled, turns) {
-            Ok(taken) => taken,
-            Err(left) => return Err(left),
+    for _ in shared.rt.forever() {
+        let onward = match take_turn(shared, pass, settled) {
+            Ok(onward) => onward,
+            Err(exit) => return Err(exit),
         };
-        let jobs = match gathered {
+        let Onward { value, pass: back } = onward;
+        let jobs = match value {
             TakenJobs::Over => return Ok(back),
             TakenJobs::Jobs(jobs) => jobs,
         };
         rests = if jobs.is_empty() {
-            turns.rest(rt, rests)
+            shared.turns.rest(shared.rt, rests)
         } else {
             0
         };
-        let Ok(decided) = decide_all(alloc, &mut adjudicator, jobs) else {
-            return Err((RunFault::OutOfMemory, back));
+        let Ok(decided) = decide_all(shared.alloc, &mut adjudicator, jobs) else {
+            return Err(Exit {
+                fault: RunFault::OutOfMemory,
+                pass: back,
+            });
         };
         settled = decided;
         pass = back;
@@ -98,104 +96,144 @@ pub(crate) fn run_worker<R: Wait, G: Gate>(
 // Records the outcomes of the last turn and takes claims, in one turn. To keep the turn short, memory for as many claims as in
 // the last turn is allocated before it, and the decided claims are dropped after it.
 fn take_turn<R: Wait, G: Gate>(
-    rt: &R,
-    alloc: Global,
-    terms: &Terms,
-    gate: &G,
+    shared: &Shared<R, G>,
     pass: G::Pass,
     settled: Vec<DecidedJob>,
-    turns: &GateBatching,
-) -> Result<(TakenJobs, G::Pass), (RunFault, G::Pass)>
-    requires own { G.has_pass gate.now pass }
-    requires terms { (G.known pass).seen.terms ≡ terms.now }
+) -> Result<Onward<TakenJobs, G::Pass>, Exit<G::Pass>>
+    requires own { G.has_pass shared.now.gate.now pass }
+    requires terms { (G.known pass).seen.terms ≡ shared.now.terms.now }
     requires settled { All (IsSettledIn (G.known pass).seen) settled.items }
-    ensures goes_on { IfOk result (λ r. GoesOn (G.has_pass gate.now) G.known pass r.1) }
-    ensures gathered { IfOk result (λ r. IsGathered (G.known r.1).seen r.0) }
-    ensures leaves { IfErr result (LeavesWith (G.has_pass gate.now) G.known pass) }
+    ensures goes_on { IfOk result
+        (λ r. GoesOn (G.has_pass shared.now.gate.now) G.known pass r.pass) }
+    ensures recorded { IfOk result
+        (λ r. All (IsRecordedIn (G.known r.pass).seen) settled.items) }
+    ensures gathered { IfOk result (λ r. IsGathered (G.known r.pass) r.value) }
+    ensures leaves { IfErr result
+        (LeavesWith (G.has_pass shared.now.gate.now) G.is_worn G.known pass) }
 {
-    let Ok(jobs) = Vec::with_capacity(alloc, settled.len()) else {
-        return Err((RunFault::OutOfMemory, pass));
+    let Ok(jobs) = Vec::with_capacity(shared.alloc, settled.len()) else {
+        return Err(Exit {
+            fault: RunFault::OutOfMemory,
+            pass,
+        });
     };
-    let Ok(mut released) = Vec::with_capacity(alloc, settled.len()) else {
-        return Err((RunFault::OutOfMemory, pass));
+    let Ok(mut released) = Vec::with_capacity(shared.alloc, settled.len()) else {
+        return Err(Exit {
+            fault: RunFault::OutOfMemory,
+            pass,
+        });
     };
-    let turn = turns.begin(rt);
-    let pass = match record_all(rt, terms, gate, pass, settled, &mut released) {
+    let turn = shared.turns.begin(shared.rt);
+    let pass = match record_all(shared, pass, settled, &mut released) {
         Ok(pass) => pass,
-        Err(left) => return Err(left),
+        Err(exit) => return Err(exit),
     };
-    gather(rt, terms, gate, pass, &turn, jobs)
+    gather(shared, pass, jobs, &turn)
 }
 
 // Takes claims, one call after another, until none is ready or the turn has reached its limit.
 fn gather<R: Wait, G: Gate>(
-    rt: &R,
-    terms: &Terms,
-    gate: &G,
+    shared: &Shared<R, G>,
     mut pass: G::Pass,
-    turn: &BatchTurn,
     mut jobs: Vec<Job>,
-) -> Result<(TakenJobs, G::Pass), (RunFault, G::Pass)>
-    requires own { G.has_pass gate.now pass }
-    requires terms { (G.known pass).seen.terms ≡ terms.now }
+    turn: &BatchTurn,
+) -> Result<Onward<TakenJobs, G::Pass>, Exit<G::Pass>>
+    requires own { G.has_pass shared.now.gate.now pass }
+    requires terms { (G.known pass).seen.terms ≡ shared.now.terms.now }
     requires none { jobs.items ≡ [] }
-    ensures goes_on { IfOk result (λ r. GoesOn (G.has_pass gate.now) G.known pass r.1) }
-    ensures gathered { IfOk result (λ r. IsGathered (G.known r.1).seen r.0) }
-    ensures leaves { IfErr result (LeavesWith (G.has_pass gate.now) G.known pass) }
+    ensures goes_on { IfOk result
+        (λ r. GoesOn (G.has_pass shared.now.gate.now) G.known pass r.pass) }
+    ensures gathered { IfOk result (λ r. IsGathered (G.known r.pass) r.value) }
+    ensures leaves { IfErr result
+        (LeavesWith (G.has_pass shared.now.gate.now) G.is_worn G.known pass) }
 {
     // proof: a job is a job in every later state of the gate.
     jobs_are_stable();
-    'calls: for _ in 0..TAKES_LIMIT {
-        let (task, back) = match take(rt, terms, gate, pass) {
-            Ok(taken) => taken,
-            Err(left) => return Err(left),
+    'calls: for call in 0..TAKES_LIMIT {
+        let onward = match take(shared, pass) {
+            Ok(onward) => onward,
+            Err(exit) => return Err(exit),
         };
-        match task {
-            Task::Over => return Ok((TakenJobs::Over, back)),
-            Task::NothingReady => return Ok((TakenJobs::Jobs(jobs), back)),
+        let Onward { value, pass: back } = onward;
+        match value {
+            Task::Over => return Ok(Onward {
+                value: TakenJobs::Over,
+                pass: back,
+            }),
+            Task::NothingReady => return Ok(Onward {
+                value: TakenJobs::Jobs(jobs),
+                pass: back,
+            }),
             Task::Work(job) => {
                 turn.count_taken();
                 let Ok(()) = jobs.push(job) else {
-                    return Err((RunFault::OutOfMemory, back));
+                    return Err(Exit {
+                        fault: RunFault::OutOfMemory,
+                        pass: back,
+                    });
                 };
             }
         }
         pass = back;
     }
-    Ok((TakenJobs::Jobs(jobs), pass))
+    Ok(Onward {
+        value: TakenJobs::Jobs(jobs),
+        pass,
+    })
 }
 
 // Takes a claim, in at most `ATTEMPTS` calls.
 fn take<R: Wait, G: Gate>(
-    rt: &R,
-    terms: &Terms,
-    gate: &G,
+    shared: &Shared<R, G>,
     mut pass: G::Pass,
-) -> Result<(Task, G::Pass), (RunFault, G::Pass)>
-    requires own { G.has_pass gate.now pass }
-    requires terms { (G.known pass).seen.terms ≡ terms.now }
-    ensures goes_on { IfOk result (λ r. GoesOn (G.has_pass gate.now) G.known pass r.1) }
-    ensures task { IfOk result (λ r. IsTask (G.known r.1).seen r.0) }
-    ensures leaves { IfErr result (LeavesWith (G.has_pass gate.now) G.known pass) }
+) -> Result<Onward<Task, G::Pass>, Exit<G::Pass>>
+    requires own { G.has_pass shared.now.gate.now pass }
+    requires terms { (G.known pass).seen.terms ≡ shared.now.terms.now }
+    ensures goes_on { IfOk result
+        (λ r. GoesOn (G.has_pass shared.now.gate.now) G.known pass r.pass) }
+    ensures task { IfOk result (λ r. IsTask (G.known r.pass) r.value) }
+    ensures leaves { IfErr result
+        (LeavesWith (G.has_pass shared.now.gate.now) G.is_worn G.known pass) }
 {
     // proof: the claim files have lists of claims, whose claims have the plan's fields.
-    claim_lists_exist(terms);
+    claim_lists_exist(shared.terms);
     claims_have_the_plan_s_fields();
-    let _names = terms.plan().names();
+    let _names = shared.terms.plan().names();
     'tries: for _ in 0..ATTEMPTS {
-        let (taken, after) = match gate.take(rt, pass) {
-            Ok(answer) => answer,
-            Err((_, pass)) => return Err((RunFault::Worn, pass)),
+        let served = match shared.gate.take(shared.rt, pass) {
+            Ok(served) => served,
+            Err(worn) => return Err(Exit {
+                fault: RunFault::Worn,
+                pass: worn.pass,
+            }),
         };
-        match taken {
-            Ok(Taken::Over) => return Ok((Task::Over, after)),
-            Ok(Taken::Work(job)) => return Ok((Task::Work(job), after)),
-            Ok(Taken::NothingReady) => return Ok((Task::NothingReady, after)),
-            Ok(Taken::Stopped) => return Err((RunFault::Stopped, after)),
+        let Served { reply, pass: after } = served;
+        match reply {
+            Ok(Taken::Over) => return Ok(Onward {
+                value: Task::Over,
+                pass: after,
+            }),
+            Ok(Taken::Work(job)) => return Ok(Onward {
+                value: Task::Work(job),
+                pass: after,
+            }),
+            Ok(Taken::NothingReady) => {
+                return Ok(Onward {
+                    value: Task::NothingReady,
+                    pass: after,
+                });
+            }
+            Ok(Taken::Stopped) => return Err(Exit {
+                fault: RunFault::Stopped,
+                pass: after,
+            }),
             Err(_) => pass = after,
         }
     }
-    Err((RunFault::OutOfMemory, pass))
+    Err(Exit {
+        fault: RunFault::OutOfMemory,
+        pass,
+    })
 }
 
 fn decide_all<'v, 'p>(
@@ -235,25 +273,25 @@ fn settle<'v, 'p>(
 
 // Records outcomes, one call after another. Their claims go into `released`, to be dropped after the turn.
 fn record_all<R: Wait, G: Gate>(
-    rt: &R,
-    terms: &Terms,
-    gate: &G,
+    shared: &Shared<R, G>,
     mut pass: G::Pass,
     settled: Vec<DecidedJob>,
     released: &mut Vec<BoxedClaim>,
-) -> Result<G::Pass, (RunFault, G::Pass)>
-    requires own { G.has_pass gate.now pass }
-    requires terms { (G.known pass).seen.terms ≡ terms.now }
+) -> Result<G::Pass, Exit<G::Pass>>
+    requires own { G.has_pass shared.now.gate.now pass }
+    requires terms { (G.known pass).seen.terms ≡ shared.now.terms.now }
     requires settled { All (IsSettledIn (G.known pass).seen) settled.items }
-    ensures goes_on { IfOk result (GoesOn (G.has_pass gate.now) G.known pass) }
-    ensures leaves { IfErr result (LeavesWith (G.has_pass gate.now) G.known pass) }
+    ensures goes_on { IfOk result (GoesOn (G.has_pass shared.now.gate.now) G.known pass) }
+    ensures recorded { IfOk result (λ p. All (IsRecordedIn (G.known p).seen) settled.items) }
+    ensures leaves { IfErr result
+        (LeavesWith (G.has_pass shared.now.gate.now) G.is_worn G.known pass) }
 {
     // proof: a job is a job in every later state of the gate.
     jobs_are_stable();
     for one in settled {
-        pass = match record(rt, terms, gate, pass, one, released) {
+        pass = match record(shared, pass, one, released) {
             Ok(pass) => pass,
-            Err(left) => return Err(left),
+            Err(exit) => return Err(exit),
         };
     }
     Ok(pass)
@@ -261,45 +299,62 @@ fn record_all<R: Wait, G: Gate>(
 
 // Records an outcome, in at most `ATTEMPTS` calls. Another caller may have recorded it already.
 fn record<R: Wait, G: Gate>(
-    rt: &R,
-    terms: &Terms,
-    gate: &G,
+    shared: &Shared<R, G>,
     mut pass: G::Pass,
     settled: DecidedJob,
     released: &mut Vec<BoxedClaim>,
-) -> Result<G::Pass, (RunFault, G::Pass)>
-    requires own { G.has_pass gate.now pass }
-    requires terms { (G.known pass).seen.terms ≡ terms.now }
+) -> Result<G::Pass, Exit<G::Pass>>
+    requires own { G.has_pass shared.now.gate.now pass }
+    requires terms { (G.known pass).seen.terms ≡ shared.now.terms.now }
     requires settled { IsSettledIn (G.known pass).seen settled }
-    ensures goes_on { IfOk result (GoesOn (G.has_pass gate.now) G.known pass) }
+    ensures goes_on { IfOk result (GoesOn (G.has_pass shared.now.gate.now) G.known pass) }
     ensures decided { IfOk result
         (λ p. has_decision (G.known p).seen.journal settled.job.position ≡ true) }
-    ensures leaves { IfErr result (LeavesWith (G.has_pass gate.now) G.known pass) }
+    ensures leaves { IfErr result
+        (LeavesWith (G.has_pass shared.now.gate.now) G.is_worn G.known pass) }
 {
     // proof: the claim files have lists of claims, and a job is a job in every later state of the gate.
-    claim_lists_exist(terms);
+    claim_lists_exist(shared.terms);
     jobs_are_stable();
     let DecidedJob {
         mut job,
         mut outcome,
     } = settled;
     'tries: for _ in 0..ATTEMPTS {
-        let (recorded, after) = match gate.finish(rt, pass, job, outcome) {
-            Ok(answer) => answer,
-            Err((_, pass, _, _)) => return Err((RunFault::Worn, pass)),
+        let served = match shared.gate.finish(shared.rt, pass, job, outcome) {
+            Ok(served) => served,
+            Err(worn) => return Err(Exit {
+                fault: RunFault::Worn,
+                pass: worn.pass,
+            }),
         };
-        match recorded {
+        let Served { reply, pass: after } = served;
+        let refused = match reply {
             Ok(recorded) => {
                 // Without memory for the list, the claim is dropped here.
                 let _ = released.push(recorded.claim);
                 return Ok(after);
             }
-            Err((FinishFault::AlreadyDecided, _, _)) => return Ok(after),
-            Err((FinishFault::Stopped, _, _)) => return Err((RunFault::Stopped, after)),
-            Err((FinishFault::OutOfMemory, again, same)) => {
+            Err(refused) => refused,
+        };
+        let Refused { fault, value } = refused;
+        match fault {
+            FinishFault::AlreadyDecided => return Ok(after),
+            FinishFault::Stopped => return Err(Exit {
+                fault: RunFault::Stopped,
+                pass: after,
+            }),
+            FinishFault::OutOfMemory => {
+                let DecidedJob {
+                    job: again,
+                    outcome: same,
+                } = value;
                 (pass, job, outcome) = (after, again, same);
             }
         }
     }
-    Err((RunFault::OutOfMemory, pass))
+    Err(Exit {
+        fault: RunFault::OutOfMemory,
+        pass,
+    })
 }

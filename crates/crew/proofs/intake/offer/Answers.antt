@@ -7,11 +7,11 @@ use Rattle.crew.proofs.intake.offer.Goals as goal
 pub tries-preserved : goal.tries-preserved
 tries-preserved g c =
     let before = (g.G.Gate.known c.tries.pass).seen in
-    let after = (g.G.Gate.known c.in-Ok.answer.1).seen in
-    let on = after_section (g.G.Gate.has_pass c.args.gate.now) g.G.Gate.known c.tries.pass c.in-Ok.answer.1 c.in-Ok.ensures.served in
-    let same = rw c.in-Err-OutOfMemory-default.is at c.in-Ok.ensures.back in
+    let after = (g.G.Gate.known c.in-Ok.served.pass).seen in
+    let on = after_section (g.G.Gate.has_pass c.args.shared.now.gate.now) g.G.Gate.known c.tries.pass c.in-Ok.served.pass c.in-Ok.ensures.served in
+    let same = rw c.in-Err-reply.is at c.in-Ok.ensures.back in
     let more = no_fewer before.journal after.journal c.args.offer.provider on.seen.journal in (
-      section_later (g.G.Gate.has_pass c.args.gate.now) g.G.Gate.known c.args.pass c.tries.pass c.in-Ok.answer.1 c.tries.invariant.0 c.in-Ok.ensures.served,
+      section_later (g.G.Gate.has_pass c.args.shared.now.gate.now) g.G.Gate.known c.args.pass c.tries.pass c.in-Ok.served.pass c.tries.invariant.0 c.in-Ok.ensures.served,
       on.seen.terms ∙ c.tries.invariant.1,
       same ∙ c.tries.invariant.2,
       omega (arith, c.tries.invariant.3, more),
@@ -19,52 +19,48 @@ tries-preserved g c =
 
 pub returns-in-Err-clause-leaves : goal.returns-in-Err-clause-leaves
 returns-in-Err-clause-leaves g c =
-    let worn = rw c.in-Err.is at c.offer.ensures.worn in
-    worn_later (g.G.Gate.has_pass c.args.gate.now) g.G.Gate.known g.G.Gate.is_worn c.args.pass c.tries.pass c.in-Err.pass c.tries.invariant.0 worn
+    worn_later (g.G.Gate.has_pass c.args.shared.now.gate.now) g.G.Gate.known g.G.Gate.is_worn c.args.pass c.tries.pass c.in-Err.worn.pass c.tries.invariant.0 c.in-Err.ensures.worn
 
-pub returns-in-Ok-accepted-clause-goes_on : goal.returns-in-Ok-accepted-clause-goes_on
-returns-in-Ok-accepted-clause-goes_on g c =
-    section_later (g.G.Gate.has_pass c.args.gate.now) g.G.Gate.known c.args.pass c.tries.pass c.in-Ok.answer.1 c.tries.invariant.0 c.in-Ok.ensures.served
+pub returns-in-Ok-reply-clause-goes_on : goal.returns-in-Ok-reply-clause-goes_on
+returns-in-Ok-reply-clause-goes_on g c =
+    section_later (g.G.Gate.has_pass c.args.shared.now.gate.now) g.G.Gate.known c.args.pass c.tries.pass c.in-Ok.served.pass c.tries.invariant.0 c.in-Ok.ensures.served
 
-pub returns-in-Ok-accepted-clause-next : goal.returns-in-Ok-accepted-clause-next
-returns-in-Ok-accepted-clause-next g c =
-    let reply = rw (c.in-Ok-accepted.is, c.tries.invariant.2) at c.in-Ok.ensures.reply in
-    accepts_on c.args.terms.now c.claim_lists_exist.ensures (g.G.Gate.known c.tries.pass) (g.G.Gate.known c.in-Ok.answer.1) c.tries.invariant.1 c.in-Ok.ensures.served.section
-    c.args.offer.provider c.args.offer.place c.in-Ok-accepted.field-0.position reply
+pub returns-in-Ok-reply-clause-next : goal.returns-in-Ok-reply-clause-next
+returns-in-Ok-reply-clause-next g c =
+    let reply = rw (c.in-Ok-reply.is, c.tries.invariant.2) at c.in-Ok.ensures.reply in
+    accepts_on c.args.shared.now.terms.now c.claim_lists_exist.ensures (g.G.Gate.known c.tries.pass) (g.G.Gate.known c.in-Ok.served.pass) c.tries.invariant.1 c.in-Ok.ensures.served.section
+    c.args.offer.provider c.args.offer.place c.in-Ok-reply.field-0.position reply
 
-pub returns-in-Err-OutOfTurn-default-clause-goes_on : goal.returns-in-Err-OutOfTurn-default-clause-goes_on
-returns-in-Err-OutOfTurn-default-clause-goes_on g c =
-    section_later (g.G.Gate.has_pass c.args.gate.now) g.G.Gate.known c.args.pass c.tries.pass c.in-Ok.answer.1 c.tries.invariant.0 c.in-Ok.ensures.served
+pub returns-in-OutOfTurn-clause-goes_on : goal.returns-in-OutOfTurn-clause-goes_on
+returns-in-OutOfTurn-clause-goes_on g c =
+    section_later (g.G.Gate.has_pass c.args.shared.now.gate.now) g.G.Gate.known c.args.pass c.tries.pass c.in-Ok.served.pass c.tries.invariant.0 c.in-Ok.ensures.served
 
-pub returns-in-Err-OutOfTurn-default-clause-next : goal.returns-in-Err-OutOfTurn-default-clause-next
-returns-in-Err-OutOfTurn-default-clause-next g c =
-    goes_on c.args.terms.now c.claim_lists_exist.ensures (g.G.Gate.known c.tries.pass) (g.G.Gate.known c.in-Ok.answer.1) c.tries.invariant.1 c.in-Ok.ensures.served.section
-    c.args.offer.provider c.args.offer.place c.in-Err-OutOfTurn-default.expected c.in-Ok.answer.0 c.in-Err-OutOfTurn-default.field-0-0 c.in-Err-OutOfTurn-default.field-0-1
-    c.in-Err-OutOfTurn-default.is c.in-Err-OutOfTurn-default.field-0-0-is c.tries.invariant.3 (rw c.tries.invariant.2 at c.in-Ok.ensures.reply)
+pub returns-in-OutOfTurn-clause-next : goal.returns-in-OutOfTurn-clause-next
+returns-in-OutOfTurn-clause-next g c =
+    goes_on c.args.shared.now.terms.now c.claim_lists_exist.ensures (g.G.Gate.known c.tries.pass) (g.G.Gate.known c.in-Ok.served.pass) c.tries.invariant.1 c.in-Ok.ensures.served.section
+    c.args.offer.provider c.args.offer.place c.in-OutOfTurn.expected c.in-Ok.served.reply c.in-Err-reply.refused c.in-Err-reply.is c.in-OutOfTurn.is c.tries.invariant.3 (rw c.tries.invariant.2 at c.in-Ok.ensures.reply)
 
-pub returns-in-Err-Closed-default-clause-goes_on : goal.returns-in-Err-Closed-default-clause-goes_on
-returns-in-Err-Closed-default-clause-goes_on g c =
-    section_later (g.G.Gate.has_pass c.args.gate.now) g.G.Gate.known c.args.pass c.tries.pass c.in-Ok.answer.1 c.tries.invariant.0 c.in-Ok.ensures.served
+pub returns-in-Closed-clause-goes_on : goal.returns-in-Closed-clause-goes_on
+returns-in-Closed-clause-goes_on g c =
+    section_later (g.G.Gate.has_pass c.args.shared.now.gate.now) g.G.Gate.known c.args.pass c.tries.pass c.in-Ok.served.pass c.tries.invariant.0 c.in-Ok.ensures.served
 
-pub returns-in-Err-Closed-default-clause-next : goal.returns-in-Err-Closed-default-clause-next
-returns-in-Err-Closed-default-clause-next g c =
-    closed_to c.args.terms.now c.claim_lists_exist.ensures (g.G.Gate.known c.tries.pass) (g.G.Gate.known c.in-Ok.answer.1) c.tries.invariant.1 c.in-Ok.ensures.served.section
-    c.args.offer.provider c.args.offer.place c.in-Ok.answer.0 c.in-Err-Closed-default.field-0-0 c.in-Err-Closed-default.field-0-1
-    c.in-Err-Closed-default.is c.in-Err-Closed-default.field-0-0-is (rw c.tries.invariant.2 at c.in-Ok.ensures.reply)
+pub returns-in-Closed-clause-next : goal.returns-in-Closed-clause-next
+returns-in-Closed-clause-next g c =
+    closed_to c.args.shared.now.terms.now c.claim_lists_exist.ensures (g.G.Gate.known c.tries.pass) (g.G.Gate.known c.in-Ok.served.pass) c.tries.invariant.1 c.in-Ok.ensures.served.section
+    c.args.offer.provider c.args.offer.place c.in-Ok.served.reply c.in-Err-reply.refused c.in-Err-reply.is c.in-Closed.is (rw c.tries.invariant.2 at c.in-Ok.ensures.reply)
 
-pub returns-in-Err-Stopped-default-clause-goes_on : goal.returns-in-Err-Stopped-default-clause-goes_on
-returns-in-Err-Stopped-default-clause-goes_on g c =
-    section_later (g.G.Gate.has_pass c.args.gate.now) g.G.Gate.known c.args.pass c.tries.pass c.in-Ok.answer.1 c.tries.invariant.0 c.in-Ok.ensures.served
+pub returns-in-Stopped-clause-goes_on : goal.returns-in-Stopped-clause-goes_on
+returns-in-Stopped-clause-goes_on g c =
+    section_later (g.G.Gate.has_pass c.args.shared.now.gate.now) g.G.Gate.known c.args.pass c.tries.pass c.in-Ok.served.pass c.tries.invariant.0 c.in-Ok.ensures.served
 
-pub returns-in-Err-Stopped-default-clause-next : goal.returns-in-Err-Stopped-default-clause-next
-returns-in-Err-Stopped-default-clause-next g c =
-    stopped_to c.args.terms.now c.claim_lists_exist.ensures (g.G.Gate.known c.tries.pass) (g.G.Gate.known c.in-Ok.answer.1) c.tries.invariant.1 c.in-Ok.ensures.served.section
-    c.args.offer.provider c.args.offer.place c.in-Ok.answer.0 c.in-Err-Stopped-default.field-0-0 c.in-Err-Stopped-default.field-0-1
-    c.in-Err-Stopped-default.is c.in-Err-Stopped-default.field-0-0-is (rw c.tries.invariant.2 at c.in-Ok.ensures.reply)
+pub returns-in-Stopped-clause-next : goal.returns-in-Stopped-clause-next
+returns-in-Stopped-clause-next g c =
+    stopped_to c.args.shared.now.terms.now c.claim_lists_exist.ensures (g.G.Gate.known c.tries.pass) (g.G.Gate.known c.in-Ok.served.pass) c.tries.invariant.1 c.in-Ok.ensures.served.section
+    c.args.offer.provider c.args.offer.place c.in-Ok.served.reply c.in-Err-reply.refused c.in-Err-reply.is c.in-Stopped.is (rw c.tries.invariant.2 at c.in-Ok.ensures.reply)
 
 pub tries-init : goal.tries-init
 tries-init g c = (
-  unchanged (g.G.Gate.has_pass c.args.gate.now) g.G.Gate.known c.args.pass c.args.pass c.requires.own refl,
+  unchanged (g.G.Gate.has_pass c.args.shared.now.gate.now) g.G.Gate.known c.args.pass c.args.pass c.requires.own refl,
   c.requires.terms,
   refl,
   c.requires.taken,
@@ -74,7 +70,7 @@ pub offer-requires-clause-filed : goal.offer-requires-clause-filed
 offer-requires-clause-filed g c = rw (c.tries.invariant.1, c.tries.invariant.2) c.requires.filed
 
 pub returns-clause-leaves : goal.returns-clause-leaves
-returns-clause-leaves g c = leaves_for_memory (g.G.Gate.has_pass c.args.gate.now) g.G.Gate.known c.args.pass c.tries.pass c.tries.invariant.0
+returns-clause-leaves g c = leaves_for_memory (g.G.Gate.has_pass c.args.shared.now.gate.now) g.G.Gate.known g.G.Gate.is_worn c.args.pass c.tries.pass c.tries.invariant.0
 
 pub offer-requires-clause-in_order : goal.offer-requires-clause-in_order
 offer-requires-clause-in_order g c =

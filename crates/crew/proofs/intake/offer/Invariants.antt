@@ -5,5 +5,5 @@ use Rattle.crew.proofs.intake.offer.Given as goal
 
 abbrev pub invariant-tries : goal.invariant-tries
 invariant-tries g l =
-    GoesOn (g.G.Gate.has_pass l.gate) g.G.Gate.known l.initial.pass l.pass
-    × ((g.G.Gate.known l.pass).seen.terms ≡ l.terms) × (l.offer ≡ l.initial.offer) × HasAccepted (g.G.Gate.known l.pass).seen l.initial.offer.provider l.initial.offer.place
+    GoesOn (g.G.Gate.has_pass l.shared.gate.now) g.G.Gate.known l.initial.pass l.pass
+    × ((g.G.Gate.known l.pass).seen.terms ≡ l.shared.terms.now) × (l.offer ≡ l.initial.offer) × HasAccepted (g.G.Gate.known l.pass).seen l.initial.offer.provider l.initial.offer.place

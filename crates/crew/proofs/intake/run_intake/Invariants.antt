@@ -1,12 +1,13 @@
-use Rattle.std.proofs.Common.{length}
+use Rattle.std.proofs.Common.{◌≡◌, length}
 use Rattle.crew.specs.Passes.{GoesOn}
-use Rattle.crew.proofs.Lefts.{IsAtOffer}
+use Rattle.crew.specs.Reading.{IsAtRecord}
 use Rattle.crew.proofs.intake.run_intake.Given as goal
 
-abbrev pub invariant-loop-ahead : goal.invariant-loop-ahead
-invariant-loop-ahead g l =
-    GoesOn (g.G.Gate.has_pass l.gate) g.G.Gate.known l.initial.pass l.pass × IsAtOffer l.terms (g.G.Gate.known l.pass).seen l.provider l.count l.expected l.rows
+abbrev pub invariant-turns : goal.invariant-turns
+invariant-turns g l =
+    GoesOn (g.G.Gate.has_pass l.shared.gate.now) g.G.Gate.known l.initial.pass l.pass
+    × IsAtRecord l.shared.terms.now (g.G.Gate.known l.pass).seen l.intake × (l.intake.provider ≡ l.provider)
 
 -- the number of records that are left
-abbrev pub decreases-loop-ahead : goal.decreases-loop-ahead
-decreases-loop-ahead g l = length l.rows.records
+abbrev pub decreases-turns : goal.decreases-turns
+decreases-turns g l = length l.intake.rows.records

@@ -23,6 +23,6 @@ run_intake-requires-clause-in_order g c κs within by_files q least before = c.f
 pub files-preserved : goal.files-preserved
 files-preserved g c =
     let known = g.G.Gate.known in (
-      further (g.G.Gate.has_pass c.args.gate.now) known c.args.pass c.files.pass c.in-Ok.pass c.files.invariant.0 c.in-Ok.ensures.goes_on,
+      further (g.G.Gate.has_pass c.args.shared.now.gate.now) known c.args.pass c.files.pass c.in-Ok.pass c.files.invariant.0 c.in-Ok.ensures.goes_on,
       one_more (known c.files.pass).seen (known c.in-Ok.pass).seen c.files.place c.in-Ok.ensures.goes_on.seen c.files.invariant.1 c.in-Ok.ensures.past,
     )

@@ -16,15 +16,15 @@ returns-in-Ok-clause-stopped g c =
 
 pub returns-in-Err-clause-own : goal.returns-in-Err-clause-own
 returns-in-Err-clause-own g c =
-    let worn = rw c.in-Err.is at c.stop.ensures.worn in
+    let worn = c.in-Err.ensures.worn in
     worn.own
 
 pub returns-in-Err-clause-seen : goal.returns-in-Err-clause-seen
 returns-in-Err-clause-seen g c =
-    let worn = rw c.in-Err.is at c.stop.ensures.worn in
-    (unchanged (g.G.Gate.has_pass c.args.gate.now) g.G.Gate.known c.args.pass c.in-Err.pass worn.own worn.same).seen
+    let worn = c.in-Err.ensures.worn in
+    (unchanged (g.G.Gate.has_pass c.args.gate.now) g.G.Gate.known c.args.pass c.in-Err.worn.pass worn.own worn.same).seen
 
 pub returns-in-Err-clause-stopped : goal.returns-in-Err-clause-stopped
 returns-in-Err-clause-stopped g c =
-    let worn = rw c.in-Err.is at c.stop.ensures.worn in
+    let worn = c.in-Err.ensures.worn in
     inr worn.worn

@@ -1,4 +1,4 @@
-use Rattle.std.proofs.Common.{◌∙◌, ◌++◌, ◌∷◌, [], rules}
+use Rattle.std.proofs.Common.{inl, inr, ◌≡◌, ◌∙◌, ◌++◌, ◌∷◌, [], length, ap, rules, arith, length-append}
 use Rattle.std.proofs.lemmas.List.Elements.{All-push, All-same}
 use Rattle.crew.specs.Sharing.{IsInWork}
 use Rattle.crew.proofs.HeldClaims.{all_in_work_stay}
@@ -7,44 +7,51 @@ use Rattle.crew.proofs.worker.gather.Goals as goal
 
 pub returns-in-NothingReady-clause-gathered : goal.returns-in-NothingReady-clause-gathered
 returns-in-NothingReady-clause-gathered g c =
-    all_in_work_stay c.jobs_are_stable.ensures (g.G.Gate.known c.calls.pass).seen (g.G.Gate.known c.in-Ok.taken.1).seen c.calls.jobs.items c.in-Ok.ensures.goes_on.seen c.calls.invariant.2
+    let before = (g.G.Gate.known c.calls.pass).seen in
+    let after = (g.G.Gate.known c.in-Ok.onward.pass).seen in record {
+      in_work = all_in_work_stay c.jobs_are_stable.ensures before after c.calls.jobs.items c.in-Ok.ensures.goes_on.seen c.calls.invariant.2;
+      whole = inr (rw c.in-NothingReady.is at c.in-Ok.ensures.task);
+    }
 
 pub calls-preserved : goal.calls-preserved
 calls-preserved g c =
     let before = (g.G.Gate.known c.calls.pass).seen in
-    let after = (g.G.Gate.known c.in-Ok.taken.1).seen in
+    let after = (g.G.Gate.known c.in-Ok.onward.pass).seen in
     let P = IsInWork after in
     let on = c.in-Ok.ensures in
-    let here = rw c.in-Work.is at on.task in (
-      further (g.G.Gate.has_pass c.args.gate.now) g.G.Gate.known c.args.pass c.calls.pass c.in-Ok.taken.1 c.calls.invariant.0 on.goes_on,
+    let here = rw c.in-Work.is at on.task in
+    let items : c.push.new.self.items ≡ c.calls.jobs.items ++ c.in-Work.job ∷ [] = search rules in
+    let size = ap length items ∙ length-append c.calls.jobs.items (c.in-Work.job ∷ []) in (
+      further (g.G.Gate.has_pass c.args.shared.now.gate.now) g.G.Gate.known c.args.pass c.calls.pass c.in-Ok.onward.pass c.calls.invariant.0 on.goes_on,
       on.goes_on.seen.terms ∙ c.calls.invariant.1,
-      All-same P c.push.new.self.items (c.calls.jobs.items ++ c.in-Work.job ∷ []) (search rules)
+      All-same P c.push.new.self.items (c.calls.jobs.items ++ c.in-Work.job ∷ []) items
           (All-push P c.calls.jobs.items c.in-Work.job (all_in_work_stay c.jobs_are_stable.ensures before after c.calls.jobs.items on.goes_on.seen c.calls.invariant.2) here),
+      omega (arith, size, c.calls.invariant.3),
     )
 
 pub returns-in-Err-clause-leaves : goal.returns-in-Err-clause-leaves
 returns-in-Err-clause-leaves g c =
-    leaves_later (g.G.Gate.has_pass c.args.gate.now) g.G.Gate.known c.args.pass c.calls.pass c.in-Err.left c.calls.invariant.0 c.in-Err.ensures.leaves
+    leaves_later (g.G.Gate.has_pass c.args.shared.now.gate.now) g.G.Gate.known g.G.Gate.is_worn c.args.pass c.calls.pass c.in-Err.exit c.calls.invariant.0 c.in-Err.ensures.leaves
 
 pub returns-in-Over-clause-goes_on : goal.returns-in-Over-clause-goes_on
 returns-in-Over-clause-goes_on g c =
-    further (g.G.Gate.has_pass c.args.gate.now) g.G.Gate.known c.args.pass c.calls.pass c.in-Ok.taken.1 c.calls.invariant.0 c.in-Ok.ensures.goes_on
+    further (g.G.Gate.has_pass c.args.shared.now.gate.now) g.G.Gate.known c.args.pass c.calls.pass c.in-Ok.onward.pass c.calls.invariant.0 c.in-Ok.ensures.goes_on
 
 pub returns-in-Over-clause-gathered : goal.returns-in-Over-clause-gathered
 returns-in-Over-clause-gathered g c = rw c.in-Over.is at c.in-Ok.ensures.task
 
 pub returns-in-NothingReady-clause-goes_on : goal.returns-in-NothingReady-clause-goes_on
 returns-in-NothingReady-clause-goes_on g c =
-    further (g.G.Gate.has_pass c.args.gate.now) g.G.Gate.known c.args.pass c.calls.pass c.in-Ok.taken.1 c.calls.invariant.0 c.in-Ok.ensures.goes_on
+    further (g.G.Gate.has_pass c.args.shared.now.gate.now) g.G.Gate.known c.args.pass c.calls.pass c.in-Ok.onward.pass c.calls.invariant.0 c.in-Ok.ensures.goes_on
 
 pub returns-in_default-clause-leaves : goal.returns-in_default-clause-leaves
 returns-in_default-clause-leaves g c =
-    let own = g.G.Gate.has_pass c.args.gate.now in
+    let own = g.G.Gate.has_pass c.args.shared.now.gate.now in
     let known = g.G.Gate.known in
-    leaves_for_memory own known c.args.pass c.in-Ok.taken.1 (further own known c.args.pass c.calls.pass c.in-Ok.taken.1 c.calls.invariant.0 c.in-Ok.ensures.goes_on)
+    leaves_for_memory own known g.G.Gate.is_worn c.args.pass c.in-Ok.onward.pass (further own known c.args.pass c.calls.pass c.in-Ok.onward.pass c.calls.invariant.0 c.in-Ok.ensures.goes_on)
 
 pub returns-clause-goes_on : goal.returns-clause-goes_on
 returns-clause-goes_on g c = c.calls.invariant.0
 
 pub returns-clause-gathered : goal.returns-clause-gathered
-returns-clause-gathered g c = c.calls.invariant.2
+returns-clause-gathered g c = record { in_work = c.calls.invariant.2; whole = inl (search rules) }

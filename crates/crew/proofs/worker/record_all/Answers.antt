@@ -1,10 +1,14 @@
-use Rattle.std.proofs.Common.{◌∷◌, sym, ◌∙◌}
-use Rattle.std.proofs.lemmas.List.Elements.{All-head, All-same, All-tail}
+use Rattle.std.proofs.Common.{◌≡◌, ◌∷◌, ◌++◌, [], sym, ap, ◌∙◌, List, length, append_assoc, append-nil, refl, arith}
+use Rattle.std.proofs.lemmas.List.Elements.{All-head, All-push, All-same, All-tail}
 use Rattle.std.specs.Vec.Iter.{into_iter_items}
-use Rattle.crew.specs.Sharing.{IsSettledIn}
-use Rattle.crew.proofs.HeldClaims.{all_settled_stay}
+use Rattle.crew.specs.Sharing.{IsRecordedIn, IsSettledIn}
+use Rattle.crew.proofs.HeldClaims.{all_recorded_stay, all_settled_stay}
 use Rattle.crew.proofs.Passes.{further, leaves_later}
 use Rattle.crew.proofs.worker.record_all.Goals as goal
+
+nothing_left : {X : Type 0} (xs : List X) → length xs ≡ 0 → xs ≡ []
+nothing_left [] none = refl
+nothing_left (x ∷ xs) none = absurd (omega (arith, none))
 
 pub record-requires-clause-settled : goal.record-requires-clause-settled
 record-requires-clause-settled g c κs within =
@@ -18,11 +22,16 @@ loop-one-preserved g c =
     let after = (g.G.Gate.known c.in-Ok.pass).seen in
     let P = IsSettledIn before in
     let rest = into_iter_items c.next.new.self in
-    let on = c.in-Ok.ensures in (
-      further (g.G.Gate.has_pass c.args.gate.now) g.G.Gate.known c.args.pass c.loop-one.pass c.in-Ok.pass c.loop-one.invariant.0 on.goes_on,
+    let on = c.in-Ok.ensures in
+    let done = c.loop-one.invariant.3 in (
+      further (g.G.Gate.has_pass c.args.shared.now.gate.now) g.G.Gate.known c.args.pass c.loop-one.pass c.in-Ok.pass c.loop-one.invariant.0 on.goes_on,
       on.goes_on.seen.terms ∙ c.loop-one.invariant.1,
       all_settled_stay c.jobs_are_stable.ensures before after rest on.goes_on.seen
           (All-tail P c.in-Some.one rest (All-same P (c.in-Some.one ∷ rest) (into_iter_items c.loop-one.one-iterator) (sym c.in-Some.ensures.steps.0) c.loop-one.invariant.2)),
+      done ++ c.in-Some.one ∷ [],
+      append_assoc done (c.in-Some.one ∷ []) rest ∙ ap (λ xs. done ++ xs) (sym c.in-Some.ensures.steps.0) ∙ c.loop-one.invariant.4,
+      All-push (IsRecordedIn after) done c.in-Some.one (all_recorded_stay before after done on.goes_on.seen c.loop-one.invariant.5) on.decided,
+      omega (arith, ap length c.in-Some.ensures.steps.0, c.in-Some.ensures.steps.1, c.loop-one.invariant.6),
     )
 
 pub record-requires-clause-own : goal.record-requires-clause-own
@@ -33,7 +42,14 @@ record-requires-clause-terms g c κs within = c.loop-one.invariant.1
 
 pub returns-in-Err-clause-leaves : goal.returns-in-Err-clause-leaves
 returns-in-Err-clause-leaves g c =
-    leaves_later (g.G.Gate.has_pass c.args.gate.now) g.G.Gate.known c.args.pass c.loop-one.pass c.in-Err.left c.loop-one.invariant.0 c.in-Err.ensures.leaves
+    leaves_later (g.G.Gate.has_pass c.args.shared.now.gate.now) g.G.Gate.known g.G.Gate.is_worn c.args.pass c.loop-one.pass c.in-Err.exit c.loop-one.invariant.0 c.in-Err.ensures.leaves
 
 pub returns-clause-goes_on : goal.returns-clause-goes_on
 returns-clause-goes_on g c = c.loop-one.invariant.0
+
+pub returns-clause-recorded : goal.returns-clause-recorded
+returns-clause-recorded g c =
+    let none = nothing_left (into_iter_items c.loop-one.one-iterator) (sym c.loop-one.invariant.6 ∙ c.in-None.ensures.steps.0) in
+    let done = c.loop-one.invariant.3 in
+    let all : done ≡ c.args.settled.items = sym (append-nil done) ∙ ap (λ xs. done ++ xs) (sym none) ∙ c.loop-one.invariant.4 in
+    All-same (IsRecordedIn (g.G.Gate.known c.loop-one.pass).seen) c.args.settled.items done (sym all) c.loop-one.invariant.5

@@ -8,14 +8,14 @@ use Rattle.crew.proofs.worker.run_worker.Goals as goal
 
 pub loop-preserved : goal.loop-preserved
 loop-preserved g c =
-    let after = (g.G.Gate.known c.in-Ok-take_turn.taken.1).seen in
+    let after = (g.G.Gate.known c.in-Ok-take_turn.onward.pass).seen in
     let on = c.in-Ok-take_turn.ensures in
     let jobs = c.in-Jobs.jobs.items in
-    let gathered = rw c.in-Jobs.is at on.gathered in
+    let gathered = (rw c.in-Jobs.is at on.gathered).in_work in
     let plan : c.loop.adjudicator ≡ after.terms.plan = c.loop.invariant.4 ∙ ap (λ terms. terms.plan) (sym (on.goes_on.seen.terms ∙ c.loop.invariant.3)) in (
       tt,
       tt,
-      further (g.G.Gate.has_pass c.args.gate.now) g.G.Gate.known c.args.pass c.loop.pass c.in-Ok-take_turn.taken.1 c.loop.invariant.2 on.goes_on,
+      further (g.G.Gate.has_pass c.args.shared.now.gate.now) g.G.Gate.known c.args.pass c.loop.pass c.in-Ok-take_turn.onward.pass c.loop.invariant.2 on.goes_on,
       on.goes_on.seen.terms ∙ c.loop.invariant.3,
       c.in-Ok-decide_all.ensures.plan ∙ c.loop.invariant.4,
       All-same (IsSettledIn after) c.in-Ok-decide_all.decided.items (map (settled_by c.loop.adjudicator) jobs) c.in-Ok-decide_all.ensures.settled
@@ -24,17 +24,17 @@ loop-preserved g c =
 
 pub returns-in_default-clause-leaves : goal.returns-in_default-clause-leaves
 returns-in_default-clause-leaves g c =
-    let own = g.G.Gate.has_pass c.args.gate.now in
+    let own = g.G.Gate.has_pass c.args.shared.now.gate.now in
     let known = g.G.Gate.known in
-    leaves_for_memory own known c.args.pass c.args.pass (unchanged own known c.args.pass c.args.pass c.requires.own refl)
+    leaves_for_memory own known g.G.Gate.is_worn c.args.pass c.args.pass (unchanged own known c.args.pass c.args.pass c.requires.own refl)
 
 pub returns-in-Err-clause-leaves : goal.returns-in-Err-clause-leaves
 returns-in-Err-clause-leaves g c =
-    leaves_later (g.G.Gate.has_pass c.args.gate.now) g.G.Gate.known c.args.pass c.loop.pass c.in-Err.left c.loop.invariant.2 c.in-Err.ensures.leaves
+    leaves_later (g.G.Gate.has_pass c.args.shared.now.gate.now) g.G.Gate.known g.G.Gate.is_worn c.args.pass c.loop.pass c.in-Err.exit c.loop.invariant.2 c.in-Err.ensures.leaves
 
 pub returns-in-Over-clause-goes_on : goal.returns-in-Over-clause-goes_on
 returns-in-Over-clause-goes_on g c =
-    further (g.G.Gate.has_pass c.args.gate.now) g.G.Gate.known c.args.pass c.loop.pass c.in-Ok-take_turn.taken.1 c.loop.invariant.2 c.in-Ok-take_turn.ensures.goes_on
+    further (g.G.Gate.has_pass c.args.shared.now.gate.now) g.G.Gate.known c.args.pass c.loop.pass c.in-Ok-take_turn.onward.pass c.loop.invariant.2 c.in-Ok-take_turn.ensures.goes_on
 
 pub take_turn-requires-clause-own : goal.take_turn-requires-clause-own
 take_turn-requires-clause-own g c κs within = c.loop.invariant.2.own
@@ -53,15 +53,15 @@ returns-in-Over-clause-finished g c T is =
 
 pub decide_all-requires-clause-fields : goal.decide_all-requires-clause-fields
 decide_all-requires-clause-fields g c =
-    let after = (g.G.Gate.known c.in-Ok-take_turn.taken.1).seen in
+    let after = (g.G.Gate.known c.in-Ok-take_turn.onward.pass).seen in
     let on = c.in-Ok-take_turn.ensures in
-    let gathered = rw c.in-Jobs.is at on.gathered in
+    let gathered = (rw c.in-Jobs.is at on.gathered).in_work in
     let plan : c.loop.adjudicator ≡ after.terms.plan = c.loop.invariant.4 ∙ ap (λ terms. terms.plan) (sym (on.goes_on.seen.terms ∙ c.loop.invariant.3)) in
     all_have_fields after c.loop.adjudicator c.in-Jobs.jobs.items plan gathered
 
 pub returns-in_default-decide_all-clause-leaves : goal.returns-in_default-decide_all-clause-leaves
 returns-in_default-decide_all-clause-leaves g c =
-    let own = g.G.Gate.has_pass c.args.gate.now in
+    let own = g.G.Gate.has_pass c.args.shared.now.gate.now in
     let known = g.G.Gate.known in
-    let back = c.in-Ok-take_turn.taken.1 in
-    leaves_for_memory own known c.args.pass back (further own known c.args.pass c.loop.pass back c.loop.invariant.2 c.in-Ok-take_turn.ensures.goes_on)
+    let back = c.in-Ok-take_turn.onward.pass in
+    leaves_for_memory own known g.G.Gate.is_worn c.args.pass back (further own known c.args.pass c.loop.pass back c.loop.invariant.2 c.in-Ok-take_turn.ensures.goes_on)

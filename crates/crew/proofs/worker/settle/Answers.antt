@@ -1,5 +1,5 @@
 use Rattle.std.proofs.Common.{◌∙◌, refl}
-use Rattle.crew.specs.declared.worker.DecidedJob.{DecidedJob}
+use Rattle.claim_gate.specs.declared.job.DecidedJob.{DecidedJob}
 use Rattle.crew.proofs.HeldClaims.{settled_is}
 use Rattle.crew.proofs.worker.settle.Goals as goal
 

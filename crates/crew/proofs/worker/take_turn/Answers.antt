@@ -1,18 +1,19 @@
 use Rattle.std.proofs.Common.{refl, ◌∙◌}
-use Rattle.crew.proofs.Passes.{further_beside, leaves_for_memory, leaves_later_where_err, unchanged}
+use Rattle.crew.proofs.HeldClaims.{all_recorded_beside}
+use Rattle.crew.proofs.Passes.{further_beside, leads_beside, leaves_for_memory, leaves_later_where_err, unchanged}
 use Rattle.crew.proofs.worker.take_turn.Goals as goal
 
 pub returns-in_default-clause-leaves : goal.returns-in_default-clause-leaves
 returns-in_default-clause-leaves g c =
-    let own = g.G.Gate.has_pass c.args.gate.now in
+    let own = g.G.Gate.has_pass c.args.shared.now.gate.now in
     let known = g.G.Gate.known in
-    leaves_for_memory own known c.args.pass c.args.pass (unchanged own known c.args.pass c.args.pass c.requires.own refl)
+    leaves_for_memory own known g.G.Gate.is_worn c.args.pass c.args.pass (unchanged own known c.args.pass c.args.pass c.requires.own refl)
 
 pub returns-in_default-with_capacity-clause-leaves : goal.returns-in_default-with_capacity-clause-leaves
 returns-in_default-with_capacity-clause-leaves g c =
-    let own = g.G.Gate.has_pass c.args.gate.now in
+    let own = g.G.Gate.has_pass c.args.shared.now.gate.now in
     let known = g.G.Gate.known in
-    leaves_for_memory own known c.args.pass c.args.pass (unchanged own known c.args.pass c.args.pass c.requires.own refl)
+    leaves_for_memory own known g.G.Gate.is_worn c.args.pass c.args.pass (unchanged own known c.args.pass c.args.pass c.requires.own refl)
 
 pub record_all-requires-clause-settled : goal.record_all-requires-clause-settled
 record_all-requires-clause-settled g c κs within = c.requires.settled
@@ -28,7 +29,7 @@ gather-requires-clause-terms g c κs within = c.in-Ok-record_all.ensures.goes_on
 
 pub returns-clause-goes_on : goal.returns-clause-goes_on
 returns-clause-goes_on g c =
-    further_beside (g.G.Gate.has_pass c.args.gate.now) g.G.Gate.known c.args.pass c.in-Ok-record_all.pass c.gather.result c.in-Ok-record_all.ensures.goes_on
+    further_beside (g.G.Gate.has_pass c.args.shared.now.gate.now) g.G.Gate.known c.args.pass c.in-Ok-record_all.pass c.gather.result c.in-Ok-record_all.ensures.goes_on
     c.gather.ensures.goes_on
 
 pub returns-clause-gathered : goal.returns-clause-gathered
@@ -36,5 +37,10 @@ returns-clause-gathered g c = c.gather.ensures.gathered
 
 pub returns-clause-leaves : goal.returns-clause-leaves
 returns-clause-leaves g c =
-    leaves_later_where_err (g.G.Gate.has_pass c.args.gate.now) g.G.Gate.known c.args.pass c.in-Ok-record_all.pass c.gather.result
+    leaves_later_where_err (g.G.Gate.has_pass c.args.shared.now.gate.now) g.G.Gate.known g.G.Gate.is_worn c.args.pass c.in-Ok-record_all.pass c.gather.result
     c.in-Ok-record_all.ensures.goes_on c.gather.ensures.leaves
+
+pub returns-clause-recorded : goal.returns-clause-recorded
+returns-clause-recorded g c =
+    let leads = leads_beside (g.G.Gate.has_pass c.args.shared.now.gate.now) g.G.Gate.known c.in-Ok-record_all.pass c.gather.result c.gather.ensures.goes_on in
+    all_recorded_beside g.G.Gate.known (g.G.Gate.known c.in-Ok-record_all.pass).seen c.args.settled.items c.gather.result c.in-Ok-record_all.ensures.recorded leads

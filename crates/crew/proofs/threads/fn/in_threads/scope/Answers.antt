@@ -23,21 +23,22 @@ run_thread-requires-clause-plan g c κs within = c.requires.2
 
 pub returns-then-is_err : goal.returns-then-is_err
 returns-then-is_err g c =
-    let own = g.G.Gate.has_pass c.captures.gate.now in
+    let own = g.G.Gate.has_pass c.captures.shared.now.gate.now in
     let known = g.G.Gate.known in
     let mine = c.split-mine.result.0 in
     let split = further own known c.captures.pass c.threads.own mine c.threads.invariant.0
     (unchanged own known c.threads.own mine c.split-mine.ensures.own.0 c.split-mine.ensures.known.0) in
     let here = further own known c.captures.pass mine c.stop-stopped.result split (record { own = c.stop-stopped.ensures.own; seen = c.stop-stopped.ensures.seen }) in record {
       goes_on = further_where_ok own known c.captures.pass c.stop-stopped.result c.run_thread.result here c.run_thread.ensures.goes_on;
-      finished = under_known (length c.captures.terms.now.files ≤ c.captures.threads) (λ p. ForTerms c.captures.terms.now (λ T. Finished T (known p).seen.journal)) c.run_thread.result
+      finished = under_known (length c.captures.shared.now.terms.now.files ≤ c.captures.threads) (λ p. ForTerms c.captures.shared.now.terms.now (λ T. Finished T (known p).seen.journal)) c.run_thread.result
           c.requires.3 c.run_thread.ensures.finished;
-      leaves = leaves_later_where_err own known c.captures.pass c.stop-stopped.result c.run_thread.result here c.run_thread.ensures.leaves;
+      leaves = leaves_later_where_err own known g.G.Gate.is_worn c.captures.pass c.stop-stopped.result c.run_thread.result here c.run_thread.ensures.leaves;
+      ended = c.run_thread.ensures.ended;
     }
 
 pub threads-preserved : goal.threads-preserved
 threads-preserved g c =
-    let own = g.G.Gate.has_pass c.captures.gate.now in
+    let own = g.G.Gate.has_pass c.captures.shared.now.gate.now in
     let known = g.G.Gate.known in
     let mine = c.split-mine.result.0 in (
       further own known c.captures.pass c.threads.own mine c.threads.invariant.0
@@ -56,10 +57,11 @@ run_thread-requires-2-clause-plan g c κs within = c.requires.2
 
 pub returns : goal.returns
 returns g c =
-    let own = g.G.Gate.has_pass c.captures.gate.now in
+    let own = g.G.Gate.has_pass c.captures.shared.now.gate.now in
     let known = g.G.Gate.known in record {
       goes_on = further_where_ok own known c.captures.pass c.threads.own c.run_thread-2.result c.threads.invariant.0 c.run_thread-2.ensures.goes_on;
-      finished = under_known (length c.captures.terms.now.files ≤ c.captures.threads) (λ p. ForTerms c.captures.terms.now (λ T. Finished T (known p).seen.journal)) c.run_thread-2.result
+      finished = under_known (length c.captures.shared.now.terms.now.files ≤ c.captures.threads) (λ p. ForTerms c.captures.shared.now.terms.now (λ T. Finished T (known p).seen.journal)) c.run_thread-2.result
           c.requires.3 c.run_thread-2.ensures.finished;
-      leaves = leaves_later_where_err own known c.captures.pass c.threads.own c.run_thread-2.result c.threads.invariant.0 c.run_thread-2.ensures.leaves;
+      leaves = leaves_later_where_err own known g.G.Gate.is_worn c.captures.pass c.threads.own c.run_thread-2.result c.threads.invariant.0 c.run_thread-2.ensures.leaves;
+      ended = c.run_thread-2.ensures.ended;
     }

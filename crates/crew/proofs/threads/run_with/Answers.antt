@@ -1,23 +1,29 @@
 use Rattle.faults.specs.declared.run_fault.RunFault.TheVariants.{OutOfMemory}
-use Rattle.std.proofs.Common.{refl}
+use Rattle.std.proofs.Common.{refl, rules}
 use Rattle.journal.specs.Leading.{leads_itself}
 use Rattle.crew.proofs.Passes.{not_for_workers}
-use Rattle.crew.proofs.threads.run_on.Goals as goal
+use Rattle.crew.proofs.threads.run_with.Goals as goal
 
 pub returns-then-not-may_have-clause-seen_back : goal.returns-then-not-may_have-clause-seen_back
 returns-then-not-may_have-clause-seen_back g c = leads_itself (g.G.Gate.known c.args.pass).seen
 
+pub returns-then-not-may_have-clause-ended : goal.returns-then-not-may_have-clause-ended
+returns-then-not-may_have-clause-ended g c other = absurd (other refl)
+
 pub returns-in_default-clause-back : goal.returns-in_default-clause-back
-returns-in_default-clause-back g c = c.stop.ensures.own
+returns-in_default-clause-back g c = search rules
 
 pub returns-in_default-clause-seen_back : goal.returns-in_default-clause-seen_back
-returns-in_default-clause-seen_back g c = c.stop.ensures.seen
+returns-in_default-clause-seen_back g c = search rules
 
 pub returns-in_default-clause-refused : goal.returns-in_default-clause-refused
 returns-in_default-clause-refused g c = not_for_workers c.args.workers OutOfMemory (c.if-not-may_have.ensures.0 refl) (λ other. cc)
 
 pub returns-in_default-clause-stopped : goal.returns-in_default-clause-stopped
 returns-in_default-clause-stopped g c other = cc
+
+pub returns-in_default-clause-ended : goal.returns-in_default-clause-ended
+returns-in_default-clause-ended g c other = search rules
 
 pub returns-in-Ok-in_threads-clause-own : goal.returns-in-Ok-in_threads-clause-own
 returns-in-Ok-in_threads-clause-own g c = c.in-Ok-in_threads.ensures.goes_on.own
@@ -43,3 +49,6 @@ returns-clause-refused g c =
 
 pub returns-clause-stopped : goal.returns-clause-stopped
 returns-clause-stopped g c is = c.in-Err.ensures.leaves.stopped (c.least_with.ensures.stopped is)
+
+pub returns-clause-ended : goal.returns-clause-ended
+returns-clause-ended g c other = c.in-Err.ensures.ended
