@@ -1,15 +1,14 @@
 -- The bytes that a writer has received of a text that is written in pieces.
-use Rattle.std.proofs.Common.{◌≡◌, ◌≢◌, ℕ, ◌+◌, Bool, true, false, [], ◌++◌, List, length, take, drop, Option, Result, Ok, Err, OnOk, is_err, sym, ap, ap₂, subst, refl, ◌∙◌, append_assoc, append-nil, take-append-drop, length-append, length-take-le, arith}
+use Rattle.std.proofs.Common.{◌≡◌, ◌≢◌, ℕ, Bool, false, [], ◌++◌, List, Option, Result, Ok, Err, IfErr, OnOk, is_err, sym, ap, ap₂, subst, refl, ◌∙◌, append_assoc, append-nil}
 use Rattle.std.specs.Global.{Vec}
-use Rattle.std.specs.Io.KnownBytes.{Appends}
-use Rattle.std.proofs.KnownBytes.{Appends-trans}
 use Rattle.std.proofs.lemmas.Bool.{false≢true}
 use Rattle.csv.specs.Writing.{fields_written, has_written, row_text, writer_pending, writer_setup, writer_under}
 use Rattle.csv.specs.declared.writer.QuoteStyle.TheVariants.{NonNumeric}
-use Rattle.fixpoint.specs.Out.{PutsFront}
+use Rattle.csv.specs.declared.writer.Writer.{Writer}
+use Rattle.fixpoint.specs.BufferedOut.{Puts, Stays, is_cut, starting, unsent_of, written_of, Holds as BufferHolds, at as buffer_at}
+use Rattle.fixpoint.proofs.Buffering.{cut-within, holds-sent, sent-whole}
 use Rattle.remit.specs.Report.{record_text, report_style}
-use Rattle.remit.specs.RecordWriter.{At, Holds, HasFront, IsNoMemory, IsReady, Writes, at, gathered_of}
-use Rattle.faults.specs.declared.write_fault.WriteCause.TheVariants.{Device}
+use Rattle.remit.specs.RecordWriter.{At, Holds, HasFront, IsCutFault, IsNoMemory, IsReady, Writes, at, gathered_of, rendered_of}
 use Rattle.faults.specs.declared.write_fault.WriteFault.{WriteFault}
 use Rattle.remit.specs.declared.record_writer.RecordWriter.{RecordWriter}
 
@@ -27,53 +26,88 @@ no-memory contents failed old new more fault none = (
   (λ device. cc (none.cause, device), λ memory. refl),
 )
 
--- the writer fails while the buffer is passed on
-pub hand-refused : (a b : Option (List ℕ)) (failed later : Bool) (old new : RecordWriter) (text : List ℕ) (put : ℕ) (fault : WriteFault) → text ≡ gathered_of old
-    → PutsFront text put a b → fault.written ≡ old.written + put → later ≡ true → fault.cause ≡ Device → Writes (at a failed old) (at b later new) [] (Err fault)
-hand-refused a b failed later old new text put fault is puts counted failing cause = (
-  λ start whole h. record {
-    gone = h.gone ++ take put text;
-    rest = drop put text;
-    text_is =
-        append-nil whole ∙ h.text_is ∙ ap (λ t. h.gone ++ t) (sym is ∙ sym (take-append-drop put text))
-        ∙ sym (append_assoc h.gone (take put text) (drop put text));
-    appended = Appends-trans start a b h.gone (take put text) h.appended puts.appended;
-    counted =
-        let taken : length (take put text) ≡ put = length-take-le put text (omega (arith, puts.cut)) in
-        let joined = length-append h.gone (take put text) in
-        omega (arith, counted, h.counted, taken, joined);
-  },
-  (λ device. failing, λ memory. cc (cause, memory)),
+-- the parts of a text that grows, in another order
+joined : (text gone unsent rendered more piece later : List ℕ) → text ≡ gone ++ (unsent ++ rendered) → rendered ++ more ≡ piece ++ later
+    → text ++ more ≡ ((gone ++ unsent) ++ piece) ++ later
+joined text gone unsent rendered more piece later is same =
+    ap (λ t. t ++ more) (is ∙ sym (append_assoc gone unsent rendered)) ∙ append_assoc (gone ++ unsent) rendered more ∙ ap (λ t. (gone ++ unsent) ++ t) same
+    ∙ sym (append_assoc (gone ++ unsent) piece later)
+
+-- the buffer before a text is put into it
+before-put : (start a : Option (List ℕ)) (failed : Bool) (old : RecordWriter) (text : List ℕ) (h : Holds start text (at a failed old))
+    → BufferHolds (starting start failed) (h.gone ++ unsent_of old.text) (buffer_at a failed old.text)
+before-put start a failed old text h =
+    holds-sent (starting start failed) (h.gone ++ unsent_of old.text) (buffer_at a failed old.text) h.whole
+    (record { front = h.gone; text_is = refl; appended = h.appended; counted = h.counted; same = refl })
+
+-- a text is put into the buffer, and the records that are not in this text stay rendered
+pub text-put : (a b : Option (List ℕ)) (failed later : Bool) (old new : RecordWriter) (piece more : List ℕ) (result : Result (Unit {0}) WriteFault)
+    → Puts (buffer_at a failed old.text) (buffer_at b later new.text) piece → Stays (is_cut old.text) (is_cut new.text) failed later
+    → rendered_of old ++ more ≡ piece ++ rendered_of new → (IsReady old → IsReady new)
+    → OnOk result (is_cut new.text ≡ false) → IfErr result (IsCutFault new later) → Writes (at a failed old) (at b later new) more result
+text-put a b failed later old new piece more (Ok done) puts stays same ready whole cut = (
+  λ start text h.
+      let put = (h.gone ++ unsent_of old.text) ++ piece in
+      let sent =
+      sent-whole (starting start failed) put (buffer_at b later new.text) whole (puts (starting start failed) (h.gone ++ unsent_of old.text) (before-put start a failed old text h)) in
+      record {
+        gone = sent.front;
+        text_is =
+            joined text h.gone (unsent_of old.text) (rendered_of old) more piece (rendered_of new) h.text_is same ∙ ap (λ t. t ++ rendered_of new) sent.text_is
+            ∙ append_assoc sent.front (unsent_of new.text) (rendered_of new);
+        appended = sent.appended;
+        counted = sent.counted;
+        whole = whole;
+        ready = ready h.ready;
+      },
+  (stays.whole whole).1,
+)
+text-put a b failed later old new piece more (Err fault) puts stays same ready whole cut = (
+  λ start text h.
+      let put = (h.gone ++ unsent_of old.text) ++ piece in
+      let short =
+      cut-within (starting start failed) put (buffer_at b later new.text) cut.cut (puts (starting start failed) (h.gone ++ unsent_of old.text) (before-put start a failed old text h)) in
+      record {
+        gone = short.gone;
+        rest = short.rest ++ rendered_of new;
+        text_is =
+            joined text h.gone (unsent_of old.text) (rendered_of old) more piece (rendered_of new) h.text_is same ∙ ap (λ t. t ++ rendered_of new) short.text_is
+            ∙ append_assoc short.gone short.rest (rendered_of new);
+        appended = short.appended;
+        counted = cut.written ∙ short.counted;
+      },
+  (cut.device, λ memory. let sound = cut.memory memory in sound ∙ sym (stays.sound sound)),
 )
 
--- the buffer is passed on
-pub handed : (a b : Option (List ℕ)) (failed later : Bool) (old new : RecordWriter) (text : List ℕ) → text ≡ gathered_of old → Appends a b text
-    → new.written ≡ old.written + length text → gathered_of new ≡ [] → IsReady new → later ≡ failed
-    → Writes (at a failed old) (at b later new) [] (Ok tt)
-handed a b failed later old new text is appended counted none ready same = (
-  λ start whole h. record {
-    gone = h.gone ++ text;
-    text_is = append-nil whole ∙ h.text_is ∙ ap (λ t. h.gone ++ t) (sym is) ∙ sym (append-nil (h.gone ++ text)) ∙ ap (λ t. (h.gone ++ text) ++ t) (sym none);
-    appended = Appends-trans start a b h.gone text h.appended appended;
-    counted =
-        let joined = length-append h.gone text in
-        omega (arith, counted, h.counted, joined);
-    ready = ready;
-  },
-  same,
-)
+-- no record is rendered
+pub none-rendered : (rendered : Writer (Vec ℕ)) (text : Vec ℕ) → writer_under rendered ≡ text → writer_pending rendered ≡ [] → text.items ≡ []
+    → (writer_under rendered).items ++ writer_pending rendered ≡ []
+none-rendered rendered text under pending none = ap₂ (λ v p. v.items ++ p) under pending ∙ append-nil text.items ∙ none
 
--- a record is buffered
-pub gathers : (contents : Option (List ℕ)) (failed : Bool) (old new : RecordWriter) (row : List ℕ) → new.written ≡ old.written
-    → (IsReady old → (gathered_of new ≡ gathered_of old ++ row) × IsReady new) → Writes (at contents failed old) (at contents failed new) row (Ok tt)
+-- the rendered records are put, and none is left
+pub all-put : (old piece new : List ℕ) → piece ≡ old → new ≡ [] → old ++ [] ≡ piece ++ new
+all-put old piece new is none = append-nil old ∙ sym is ∙ sym (append-nil piece) ∙ ap (λ t. piece ++ t) (sym none)
+
+-- a text is put while no record is rendered
+pub put-alone : (rendered text : List ℕ) → rendered ≡ [] → rendered ++ text ≡ text ++ rendered
+put-alone rendered text none = ap (λ t. t ++ text) none ∙ sym (append-nil text) ∙ ap (λ t. text ++ t) (sym none)
+
+-- a record is rendered
+pub gathers : (contents : Option (List ℕ)) (failed : Bool) (old new : RecordWriter) (row : List ℕ) → new.text ≡ old.text
+    → (IsReady old → (rendered_of new ≡ rendered_of old ++ row) × IsReady new) → Writes (at contents failed old) (at contents failed new) row (Ok tt)
 gathers contents failed old new row same gathered = (
   λ start text h.
       let (grown, ready) = gathered h.ready in
+      let unsent = unsent_of old.text in
       record {
         gone = h.gone;
-        text_is = ap (λ t. t ++ row) h.text_is ∙ append_assoc h.gone (gathered_of old) row ∙ ap (λ t. h.gone ++ t) (sym grown);
+        text_is =
+            ap (λ t. t ++ row) h.text_is ∙ append_assoc h.gone (gathered_of old) row
+            ∙ ap (λ t. h.gone ++ t)
+            (append_assoc unsent (rendered_of old) row ∙ ap (λ t. unsent ++ t) (sym grown) ∙ ap (λ buffer. unsent_of buffer ++ rendered_of new) (sym same));
         appended = h.appended;
-        counted = same ∙ h.counted;
+        counted = ap written_of same ∙ h.counted;
+        whole = ap is_cut same ∙ h.whole;
         ready = ready;
       },
   refl,
@@ -102,20 +136,20 @@ writes-within a b text more fault writes = (
   writes.1,
 )
 
--- a record is buffered, by the contract of the CSV writer
-pub gathers-record : (contents : Option (List ℕ)) (failed : Bool) (old new : RecordWriter) (fields : List (List ℕ)) → new.written ≡ old.written
-    → (fields_written old.gathered ≡ 0 → has_written old.gathered ≡ false → (writer_setup old.gathered).style ≢ NonNumeric
-    → gathered_of new ≡ gathered_of old ++ row_text (writer_setup old.gathered) fields)
-    → fields_written new.gathered ≡ 0 → has_written new.gathered ≡ false → writer_setup new.gathered ≡ writer_setup old.gathered
+-- a record is rendered, by the contract of the CSV writer
+pub gathers-record : (contents : Option (List ℕ)) (failed : Bool) (old new : RecordWriter) (fields : List (List ℕ)) → new.text ≡ old.text
+    → (fields_written old.rendered ≡ 0 → has_written old.rendered ≡ false → (writer_setup old.rendered).style ≢ NonNumeric
+    → rendered_of new ≡ rendered_of old ++ row_text (writer_setup old.rendered) fields)
+    → fields_written new.rendered ≡ 0 → has_written new.rendered ≡ false → writer_setup new.rendered ≡ writer_setup old.rendered
     → Writes (at contents failed old) (at contents failed new) (record_text fields) (Ok tt)
 unfolding record_text
 gathers-record contents failed old new fields same bytes ended clean setup =
     gathers contents failed old new (row_text report_style fields) same
     (λ ready.
-    let plain : (writer_setup old.gathered).style ≢ NonNumeric = λ other. cc (ap (λ s. s.style) ready.setup, other) in
+    let plain : (writer_setup old.rendered).style ≢ NonNumeric = λ other. cc (ap (λ s. s.style) ready.setup, other) in
     (rw ready.setup at (bytes ready.fields ready.clean plain), record { setup = setup ∙ ready.setup; fields = ended; clean = clean }))
 
--- a record is buffered, and then the buffer is passed on
+-- a record is rendered, and then the rendered records are put
 pub gathers-and-hands : (a b c : At) (row : List ℕ) (result : Result (Unit {0}) WriteFault) → Writes a b row (Ok tt) → Writes b c [] result → Writes a c row result
 gathers-and-hands a b c row result gathered handed = subst (λ text. Writes a c text result) (append-nil row) (writes-then a b c row [] tt result gathered handed)
 
@@ -128,24 +162,7 @@ on-ok (Err e) P ok holds = absurd (false≢true (sym ok))
 pub writes-none : (a : At) → Writes a a [] (Ok tt)
 writes-none a = (λ start text h. subst (λ t. Holds start t a) (sym (append-nil text)) h, refl)
 
--- a text replaces the buffer, which is empty
-pub replaced : (contents : Option (List ℕ)) (failed : Bool) (old new : RecordWriter) (text : Vec ℕ) (bytes : List ℕ) → text.items ≡ bytes → gathered_of old ≡ []
-    → new.written ≡ old.written → writer_under new.gathered ≡ text → writer_pending new.gathered ≡ [] → IsReady new
-    → Writes (at contents failed old) (at contents failed new) bytes (Ok tt)
-replaced contents failed old new text bytes is none same under pending ready =
-    gathers contents failed old new bytes same
-    (λ before. (ap₂ (λ v p. v.items ++ p) under pending ∙ append-nil text.items ∙ is ∙ ap (λ t. t ++ bytes) (sym none), ready))
-
--- a text is passed on after the buffer, and the buffer is empty again
-pub text-handed : (a b c d e : At) (text : List ℕ) → Writes a b [] (Ok tt) → Writes b c text (Ok tt) → Writes c d [] (Ok tt) → Writes d e [] (Ok tt)
-    → Writes a e text (Ok tt)
-text-handed a b c d e text first put second last =
-    subst (λ t. Writes a e t (Ok tt)) (append-nil text)
-    (writes-then a b e [] (text ++ []) tt (Ok tt) first (writes-then b c e text [] tt (Ok tt) put (writes-then c d e [] [] tt (Ok tt) second last)))
-
--- the writer fails while the text is passed on
-pub text-refused : (a b c d : At) (text : List ℕ) (fault : WriteFault) → Writes a b [] (Ok tt) → Writes b c text (Ok tt) → Writes c d [] (Err fault)
-    → Writes a d text (Err fault)
-text-refused a b c d text fault first put second =
-    subst (λ t. Writes a d t (Err fault)) (append-nil text)
-    (writes-then a b d [] (text ++ []) tt (Err fault) first (writes-then b c d text [] tt (Err fault) put second))
+-- a postcondition of a call that succeeds, if it holds in any case
+pub in-any-case : {X Y : Type 0} (r : Result X Y) (P : Type 0) → P → OnOk r P
+in-any-case (Ok x) P holds = holds
+in-any-case (Err e) P holds = tt

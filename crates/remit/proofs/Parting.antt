@@ -4,24 +4,24 @@ use Rattle.std.specs.Io.KnownBytes.{Appends}
 use Rattle.std.proofs.lemmas.Bool.{false≢true}
 use Rattle.dtable.specs.declared.table.InputData.{InputData}
 use Rattle.intake_csv.specs.declared.rows.Row.{Row}
-use Rattle.remit.specs.RecordWriter.{At, Writes, gathered_of}
+use Rattle.remit.specs.RecordWriter.{At, IsUnused, Writes, gathered_of}
 use Rattle.remit.specs.Sections.{IsPart}
 use Rattle.remit.specs.Records.{Deciding}
 use Rattle.remit.specs.Rows.{IsRead, IsReadFirst, WritesFile, rows_text}
 use Rattle.faults.specs.declared.write_fault.WriteFault.{WriteFault}
 use Rattle.remit.proofs.Holding.{writes-then}
-use Rattle.remit.proofs.Reporting.{IsFresh, written-whole}
+use Rattle.remit.proofs.Reporting.{written-whole}
 
 -- a section is the whole text of a file's rows, written into an empty buffer
 pub part-made : (decided : Deciding) (provider : ℕ) (names : List InputData) (text : List ℕ) (a b e : At) (bytes : List ℕ) (first last : Result (Unit {0}) WriteFault)
-    → is_err first ≡ false → is_err last ≡ false → IsFresh a → WritesFile decided provider names text a b first → Writes b e [] last
+    → is_err first ≡ false → is_err last ≡ false → IsUnused a.writer → WritesFile decided provider names text a b first → Writes b e [] last
     → OnOk last (gathered_of e.writer ≡ []) → a.contents ≡ Some [] → e.contents ≡ Some bytes → IsPart decided provider names text bytes
-part-made decided provider names text a b e bytes (Err fault) last ok done fresh file end none before after = absurd (false≢true (sym ok))
-part-made decided provider names text a b e bytes (Ok first) (Err fault) ok done fresh file end none before after = absurd (false≢true (sym done))
-part-made decided provider names text a b e bytes (Ok first) (Ok last) ok done fresh file end none before after =
+part-made decided provider names text a b e bytes (Err fault) last ok done unused file end none before after = absurd (false≢true (sym ok))
+part-made decided provider names text a b e bytes (Ok first) (Err fault) ok done unused file end none before after = absurd (false≢true (sym done))
+part-made decided provider names text a b e bytes (Ok first) (Ok last) ok done unused file end none before after =
     let all = rows_text decided provider file.0 ++ [] in
     let writes : Writes a e all (Ok tt) = writes-then a b e (rows_text decided provider file.0) [] tt (Ok tt) file.2 end in
-    let appended : Appends a.contents e.contents all = written-whole a e all fresh writes none in
+    let appended : Appends a.contents e.contents all = written-whole a e all unused writes none in
     let started : Appends (Some []) e.contents all = subst (λ x. Appends x e.contents all) before appended in
     let known : Appends (Some []) (Some bytes) all = subst (λ x. Appends (Some []) x all) after started in
     record { rows = file.0; read = file.1; part_is = known ∙ append-nil (rows_text decided provider file.0) }

@@ -17,7 +17,7 @@ use Rattle.journal.specs.Terms.{Terms}
 use Rattle.journal.specs.declared.event.Event.{Event}
 use Rattle.claim_gate.specs.Terms.{AreClaimsOf, IsFinishedOver, IsTermsOf, TermsParts}
 use Rattle.remit.specs.Decided.{decided_as}
-use Rattle.remit.specs.RecordWriter.{At, Holds, IsReady, Writes, gathered_of}
+use Rattle.remit.specs.RecordWriter.{At, Holds, IsUnused, Writes, gathered_of}
 use Rattle.remit.specs.Looked.{LaidOut, found_of, looked_up}
 use Rattle.remit.specs.Records.{Deciding, id_column_fields, header_fields, line_of, record_of, records_of, reported_of, total_fields}
 use Rattle.remit.specs.Report.{IsReport, record_text, report_records, text_of, reported_by_journal}
@@ -100,34 +100,30 @@ whole-is version J files =
     ∙ ap (λ t. files_text (reported_by_journal version J) 1 files ++ t) (append-nil (record_text (total_fields version J))))
 
 -- nothing is written yet
-pub record IsFresh (start : At) : Type 0 where
-  pub gathered : gathered_of start.writer ≡ []
-  pub written : start.writer.written ≡ 0
-  pub ready : IsReady start.writer
-
-holds-none : (start : At) → IsFresh start → Holds start.contents [] start
-holds-none start fresh = record {
+holds-none : (start : At) → IsUnused start.writer → Holds start.contents [] start
+holds-none start unused = record {
   gone = [];
-  text_is = sym fresh.gathered;
+  text_is = sym (ap₂ (λ unsent rendered. unsent ++ rendered) unused.text.unsent unused.rendered);
   appended = Appends-nil start.contents;
-  counted = fresh.written;
-  ready = fresh.ready;
+  counted = unused.text.written;
+  whole = unused.text.whole;
+  ready = unused.ready;
 }
 
 -- a whole text is written, and the buffer is empty at the end
-pub written-whole : (start end : At) (text : List ℕ) → IsFresh start → Writes start end text (Ok tt) → gathered_of end.writer ≡ []
+pub written-whole : (start end : At) (text : List ℕ) → IsUnused start.writer → Writes start end text (Ok tt) → gathered_of end.writer ≡ []
     → Appends start.contents end.contents text
-written-whole start end text fresh writes none =
-    let held = writes.0 start.contents [] (holds-none start fresh) in
+written-whole start end text unused writes none =
+    let held = writes.0 start.contents [] (holds-none start unused) in
     let all = held.text_is ∙ ap (λ g. held.gone ++ g) none ∙ append-nil held.gone in
     subst (Appends start.contents end.contents) (sym all) held.appended
 
 -- the whole remittance is written
 pub report-written : (parts : TermsParts) (J : List Event) (providers : ℕ) (decisions : Decisions) (a b c d e : At) → IsFinishedOver parts J → LaidOut parts.plan.version providers J decisions
-    → providers ≡ length parts.files → IsFresh a → Writes a b (record_text (header_fields parts.plan.version)) (Ok tt)
+    → providers ≡ length parts.files → IsUnused a.writer → Writes a b (record_text (header_fields parts.plan.version)) (Ok tt)
     → WritesFiles (looked_up decisions) parts.plan.names parts.files b c (Ok tt) → Writes c d (record_text (total_fields parts.plan.version J)) (Ok tt) → Writes d e [] (Ok tt)
     → gathered_of e.writer ≡ [] → WritesReport parts J a.contents e.contents
-report-written parts J providers decisions a b c d e finished noted as_many fresh header files total end none =
+report-written parts J providers decisions a b c d e finished noted as_many unused header files total end none =
     let rows = files.0 in
     let are = files.1.are_rows in
     let alike = files-alike parts J providers decisions rows finished noted as_many are in
@@ -139,7 +135,7 @@ report-written parts J providers decisions a b c d e finished noted as_many fres
     record {
       bytes = text;
       is_report = record { files = rows; are_rows = are; bytes_are = text_is };
-      appended = written-whole a e text fresh writes none;
+      appended = written-whole a e text unused writes none;
     }
 
 -- the first n elements of a list that begins with n given elements
@@ -149,11 +145,11 @@ front-of (x ∷ front) following zero is = absurd (omega (arith, is))
 front-of (x ∷ front) following (suc n) is = ap (λ xs. x ∷ xs) (front-of front following n (omega (arith, is)))
 
 -- the writing ends within a text with which every remittance begins
-pub front-written : (parts : TermsParts) (J : List Event) (start end : At) (text : List ℕ) (fault : WriteFault) → IsFresh start → Writes start end text (Err fault)
+pub front-written : (parts : TermsParts) (J : List Event) (start end : At) (text : List ℕ) (fault : WriteFault) → IsUnused start.writer → Writes start end text (Err fault)
     → ((report : List ℕ) → IsReport parts J report → Begin text report)
     → WritesFront parts J fault.written start.contents end.contents
-front-written parts J start end text fault fresh writes begins =
-    let has = writes.0 start.contents [] (holds-none start fresh) in
+front-written parts J start end text fault unused writes begins =
+    let has = writes.0 start.contents [] (holds-none start unused) in
     record {
       bytes = has.gone;
       counted = sym has.counted;
@@ -187,18 +183,18 @@ files-counted parts count old new a b result all kept writes =
     files-same old new parts.plan.names parts.files a b result kept (all-written (looked_up new) parts.plan.names parts.files count a b result all writes)
 
 -- the writing ends in the header
-pub header-refused : (parts : TermsParts) (J : List Event) (a b : At) (fault : WriteFault) → IsFresh a → Writes a b (record_text (header_fields parts.plan.version)) (Err fault)
+pub header-refused : (parts : TermsParts) (J : List Event) (a b : At) (fault : WriteFault) → IsUnused a.writer → Writes a b (record_text (header_fields parts.plan.version)) (Err fault)
     → WritesFront parts J fault.written a.contents b.contents
-header-refused parts J a b fault fresh header =
-    front-written parts J a b (record_text (header_fields parts.plan.version)) fault fresh header (λ report is. begins-header parts J report is)
+header-refused parts J a b fault unused header =
+    front-written parts J a b (record_text (header_fields parts.plan.version)) fault unused header (λ report is. begins-header parts J report is)
 
 -- the writing ends in the files
 pub files-refused : (parts : TermsParts) (J : List Event) (providers : ℕ) (decisions : Decisions) (a b c : At) (fault : WriteFault) → IsFinishedOver parts J
-    → LaidOut parts.plan.version providers J decisions → providers ≡ length parts.files → IsFresh a → Writes a b (record_text (header_fields parts.plan.version)) (Ok tt)
+    → LaidOut parts.plan.version providers J decisions → providers ≡ length parts.files → IsUnused a.writer → Writes a b (record_text (header_fields parts.plan.version)) (Ok tt)
     → WritesFiles (looked_up decisions) parts.plan.names parts.files b c (Err fault) → WritesFront parts J fault.written a.contents c.contents
-files-refused parts J providers decisions a b c fault finished noted as_many fresh header files =
+files-refused parts J providers decisions a b c fault finished noted as_many unused header files =
     let text = record_text (header_fields parts.plan.version) ++ files.0 in
-    front-written parts J a c text fault fresh (writes-then a b c _ _ tt (Err fault) header files.2)
+    front-written parts J a c text fault unused (writes-then a b c _ _ tt (Err fault) header files.2)
     (λ report is.
     let alike = files-alike parts J providers decisions is.files finished noted as_many is.are_rows in
     let begin = files.1 is.files is.are_rows in
@@ -224,12 +220,12 @@ whole-of-each parts J providers decisions files finished noted as_many read repo
 
 -- the writing ends in the totals
 pub total-refused : (parts : TermsParts) (J : List Event) (providers : ℕ) (decisions : Decisions) (a b c d : At) (fault : WriteFault) → IsFinishedOver parts J
-    → LaidOut parts.plan.version providers J decisions → providers ≡ length parts.files → IsFresh a → Writes a b (record_text (header_fields parts.plan.version)) (Ok tt)
+    → LaidOut parts.plan.version providers J decisions → providers ≡ length parts.files → IsUnused a.writer → Writes a b (record_text (header_fields parts.plan.version)) (Ok tt)
     → WritesFiles (looked_up decisions) parts.plan.names parts.files b c (Ok tt) → Writes c d (record_text (total_fields parts.plan.version J)) (Err fault)
     → WritesFront parts J fault.written a.contents d.contents
-total-refused parts J providers decisions a b c d fault finished noted as_many fresh header files total =
+total-refused parts J providers decisions a b c d fault finished noted as_many unused header files total =
     let text = record_text (header_fields parts.plan.version) ++ (files_text (looked_up decisions) 1 files.0 ++ record_text (total_fields parts.plan.version J)) in
-    front-written parts J a d text fault fresh (writes-then a b d _ _ tt (Err fault) header (writes-then b c d _ _ tt (Err fault) files.2 total))
+    front-written parts J a d text fault unused (writes-then a b d _ _ tt (Err fault) header (writes-then b c d _ _ tt (Err fault) files.2 total))
     (λ report is. record {
       rest = [];
       whole_is = whole-of-each parts J providers decisions files.0 finished noted as_many files.1 report is ∙ sym (append-nil text);
@@ -237,14 +233,14 @@ total-refused parts J providers decisions a b c d fault finished noted as_many f
 
 -- the writing ends when the last bytes are passed on
 pub end-refused : (parts : TermsParts) (J : List Event) (providers : ℕ) (decisions : Decisions) (a b c d e : At) (fault : WriteFault) → IsFinishedOver parts J
-    → LaidOut parts.plan.version providers J decisions → providers ≡ length parts.files → IsFresh a → Writes a b (record_text (header_fields parts.plan.version)) (Ok tt)
+    → LaidOut parts.plan.version providers J decisions → providers ≡ length parts.files → IsUnused a.writer → Writes a b (record_text (header_fields parts.plan.version)) (Ok tt)
     → WritesFiles (looked_up decisions) parts.plan.names parts.files b c (Ok tt) → Writes c d (record_text (total_fields parts.plan.version J)) (Ok tt) → Writes d e [] (Err fault)
     → WritesFront parts J fault.written a.contents e.contents
-end-refused parts J providers decisions a b c d e fault finished noted as_many fresh header files total end =
+end-refused parts J providers decisions a b c d e fault finished noted as_many unused header files total end =
     let last = record_text (total_fields parts.plan.version J) in
     let front = files_text (looked_up decisions) 1 files.0 in
     let text = record_text (header_fields parts.plan.version) ++ (front ++ (last ++ [])) in
-    front-written parts J a e text fault fresh
+    front-written parts J a e text fault unused
     (writes-then a b e _ _ tt (Err fault) header (writes-then b c e _ _ tt (Err fault) files.2 (writes-then c d e _ _ tt (Err fault) total end)))
     (λ report is. record {
       rest = [];
@@ -255,20 +251,20 @@ end-refused parts J providers decisions a b c d e fault finished noted as_many f
 
 -- the writing ends by passing on the buffer
 pub ends-written : (parts : TermsParts) (J : List Event) (providers : ℕ) (decisions : Decisions) (a b c d e : At) (result : Result (Unit {0}) WriteFault)
-    → LaidOut parts.plan.version providers J decisions → providers ≡ length parts.files → IsFresh a → Writes a b (record_text (header_fields parts.plan.version)) (Ok tt)
+    → LaidOut parts.plan.version providers J decisions → providers ≡ length parts.files → IsUnused a.writer → Writes a b (record_text (header_fields parts.plan.version)) (Ok tt)
     → WritesFiles (looked_up decisions) parts.plan.names parts.files b c (Ok tt) → Writes c d (record_text (total_fields parts.plan.version J)) (Ok tt) → Writes d e [] result
     → OnOk result (gathered_of e.writer ≡ []) → OnOk result (IsFinishedOver parts J → WritesReport parts J a.contents e.contents)
-ends-written parts J providers decisions a b c d e (Ok done) noted as_many fresh header files total end none =
-    λ finished. report-written parts J providers decisions a b c d e finished noted as_many fresh header files total end none
-ends-written parts J providers decisions a b c d e (Err fault) noted as_many fresh header files total end none = tt
+ends-written parts J providers decisions a b c d e (Ok done) noted as_many unused header files total end none =
+    λ finished. report-written parts J providers decisions a b c d e finished noted as_many unused header files total end none
+ends-written parts J providers decisions a b c d e (Err fault) noted as_many unused header files total end none = tt
 
 pub ends-refused : (parts : TermsParts) (J : List Event) (providers : ℕ) (decisions : Decisions) (a b c d e : At) (result : Result (Unit {0}) WriteFault)
-    → LaidOut parts.plan.version providers J decisions → providers ≡ length parts.files → IsFresh a → Writes a b (record_text (header_fields parts.plan.version)) (Ok tt)
+    → LaidOut parts.plan.version providers J decisions → providers ≡ length parts.files → IsUnused a.writer → Writes a b (record_text (header_fields parts.plan.version)) (Ok tt)
     → WritesFiles (looked_up decisions) parts.plan.names parts.files b c (Ok tt) → Writes c d (record_text (total_fields parts.plan.version J)) (Ok tt) → Writes d e [] result
     → IfErr result (λ fault. IsFinishedOver parts J → WritesFront parts J fault.written a.contents e.contents)
-ends-refused parts J providers decisions a b c d e (Ok done) noted as_many fresh header files total end = tt
-ends-refused parts J providers decisions a b c d e (Err fault) noted as_many fresh header files total end =
-    λ finished. end-refused parts J providers decisions a b c d e fault finished noted as_many fresh header files total end
+ends-refused parts J providers decisions a b c d e (Ok done) noted as_many unused header files total end = tt
+ends-refused parts J providers decisions a b c d e (Err fault) noted as_many unused header files total end =
+    λ finished. end-refused parts J providers decisions a b c d e fault finished noted as_many unused header files total end
 
 -- after a fault of the device the writer has failed
 pub ends-device : (d e : At) (result : Result (Unit {0}) WriteFault) → Writes d e [] result → IfErr result (λ fault. fault.cause ≡ Device → e.failed ≡ true)

@@ -3,6 +3,7 @@ use Rattle.std.specs.Prelude.{◌≡◌, ℕ, Bool, true, false, List, [], ◌++
 use Rattle.std.specs.Io.KnownBytes.{Appends}
 use Rattle.csv.specs.Records.{Row, fields_of, partial_of}
 use Rattle.csv.specs.Writing.{fields_written, has_written, writer_pending, writer_setup, writer_under}
+use Rattle.fixpoint.specs.BufferedOut.{IsEmpty, is_cut, unsent_of, written_of}
 use Rattle.remit.specs.Report.{report_style}
 use Rattle.faults.specs.declared.write_fault.WriteCause.TheVariants.{Device, OutOfMemory}
 use Rattle.faults.specs.declared.write_fault.WriteFault.{WriteFault}
@@ -12,15 +13,25 @@ use Rattle.remit.specs.declared.record_writer.RecordWriter.{RecordWriter}
 abbrev pub Pushes : Row → Row → List (List ℕ) → Type 0
 Pushes old new fields = partial_of old ≡ [] → (fields_of new ≡ fields_of old ++ fields) × (partial_of new ≡ [])
 
+-- the rendered records, which are not yet put after the text
+abbrev pub rendered_of : RecordWriter → List ℕ
+rendered_of writer = (writer_under writer.rendered).items ++ writer_pending writer.rendered
+
 -- the bytes that are buffered and not yet passed on
 abbrev pub gathered_of : RecordWriter → List ℕ
-gathered_of writer = (writer_under writer.gathered).items ++ writer_pending writer.gathered
+gathered_of writer = unsent_of writer.text ++ rendered_of writer
 
--- the buffer writes in the style of the remittance, and no record is unfinished
+-- records are rendered in the style of the remittance, and none is unfinished
 pub record IsReady (writer : RecordWriter) : Type 0 where
-  pub setup : writer_setup writer.gathered ≡ report_style
-  pub fields : fields_written writer.gathered ≡ 0
-  pub clean : has_written writer.gathered ≡ false
+  pub setup : writer_setup writer.rendered ≡ report_style
+  pub fields : fields_written writer.rendered ≡ 0
+  pub clean : has_written writer.rendered ≡ false
+
+-- nothing is written yet
+pub record IsUnused (writer : RecordWriter) : Type 0 where
+  pub rendered : rendered_of writer ≡ []
+  pub text : IsEmpty writer.text
+  pub ready : IsReady writer
 
 -- the state of the writing: the contents of the writer, if they are known, whether it has failed, and the buffer
 pub record At : Type 0 where
@@ -38,7 +49,8 @@ pub record Holds (start : Option (List ℕ)) (text : List ℕ) (now : At) : Type
   pub gone : List ℕ
   pub text_is : text ≡ gone ++ gathered_of now.writer
   pub appended : Appends start now.contents gone
-  pub counted : now.writer.written ≡ length gone
+  pub counted : written_of now.writer.text ≡ length gone
+  pub whole : is_cut now.writer.text ≡ false
   pub ready : IsReady now.writer
 
 -- the writer has received exactly this number of first bytes of the text, after its contents at the start
@@ -63,5 +75,12 @@ Writes old new more (Err fault) =
 
 -- the fault is a lack of memory, after the bytes that this writer has passed on
 pub record IsNoMemory (writer : RecordWriter) (fault : WriteFault) : Type 0 where
-  pub written : fault.written ≡ writer.written
+  pub written : fault.written ≡ written_of writer.text
   pub cause : fault.cause ≡ OutOfMemory
+
+-- the text is cut, and the fault says where; after a fault of the device the writer has failed, and after a lack of memory it has not
+pub record IsCutFault (writer : RecordWriter) (failed : Bool) (fault : WriteFault) : Type 0 where
+  pub cut : is_cut writer.text ≡ true
+  pub written : fault.written ≡ written_of writer.text
+  pub device : fault.cause ≡ Device → failed ≡ true
+  pub memory : fault.cause ≡ OutOfMemory → failed ≡ false

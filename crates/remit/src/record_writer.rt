@@ -1,50 +1,49 @@
-//! A buffer of records: it collects their CSV text (RFC 4180) and passes it on to a writer in large
-//! pieces.
-ghost use Rattle.std.specs.Prelude.{◌≡◌, [], OnOk, false};
+//! Records of the remittance: their CSV text (RFC 4180) is rendered into memory and passed on to a
+//! writer in large pieces.
+ghost use Rattle.std.specs.Prelude.{◌≡◌, [], IfErr, OnOk, false};
 ghost use Rattle.csv.specs.Records.{fields_of};
 ghost use Rattle.csv.specs.Writing.{fields_written, has_written, writer_pending, writer_setup, writer_under};
+ghost use Rattle.fixpoint.specs.BufferedOut.{is_cut};
 ghost use Rattle.fixpoint.specs.Out.{has_failed, writer_of};
-ghost use Rattle.remit.specs.RecordWriter.{IsNoMemory, IsReady, Writes, at, gathered_of};
+ghost use Rattle.remit.specs.RecordWriter.{IsCutFault, IsNoMemory, IsUnused, Writes, at, gathered_of, rendered_of};
 ghost use Rattle.remit.specs.Report.{record_text, report_style};
 
 use csv::{ByteRecord, Terminator, Writer, WriterBuilder};
 use faults::{WriteCause, WriteFault};
-use fixpoint::{Out, put_all};
+use fixpoint::{BufferedOut, Out, PIECE_BYTES};
 use std::alloc::Global;
 use std::io::Write;
 use std::mem;
 
-/// The size of the buffer, in bytes, at which it is passed on to the writer.
-const PIECE_BYTES: usize = 65_536;
-
-/// Buffered records, and the number of bytes that were passed on before them.
+/// The text of a remittance, and the records after it.
+///
+/// The CSV writer renders records into memory of its own. Once this has the size of a buffer, it is
+/// put after the text, which passes it on without a copy.
 pub struct RecordWriter {
     alloc: Global,
-    gathered: Writer<Vec<u8>>,
-    written: usize,
+    rendered: Writer<Vec<u8>>,
+    text: BufferedOut,
 }
 
 impl Drop for RecordWriter {
     fn drop(self) {
         let RecordWriter {
             alloc: _,
-            gathered: _,
-            written: _,
+            rendered: _,
+            text: _,
         } = self;
     }
 }
 
 impl RecordWriter {
-    /// Returns an empty buffer.
+    /// Returns an empty text.
     pub fn new(alloc: Global) -> RecordWriter
-        ensures gathered { gathered_of result ≡ [] }
-        ensures written { result.written ≡ 0 }
-        ensures ready { IsReady result }
+        ensures { IsUnused result }
     {
         RecordWriter {
             alloc,
-            gathered: writer_into(Vec::new(alloc)),
-            written: 0,
+            rendered: writer_into(Vec::new(alloc)),
+            text: BufferedOut::new(alloc),
         }
     }
 
@@ -53,69 +52,84 @@ impl RecordWriter {
         ensures { IsNoMemory self.now result }
     {
         WriteFault {
-            written: self.written,
+            written: self.text.bytes_written(),
             cause: WriteCause::OutOfMemory,
         }
     }
 
-    /// Buffers a record, and passes the buffer on once it has `PIECE_BYTES`.
+    /// Renders a record, and puts the rendered records once they have the size of a buffer.
     pub fn write<W: Write>(&mut self, line: &ByteRecord, out: &mut Out<W>) -> Result<(), WriteFault>
         ensures { Writes (at (W.contents (writer_of out.old)) (has_failed out.old) self.old)
             (at (W.contents (writer_of out.new)) (has_failed out.new) self.new)
             (record_text (fields_of line.now)) result }
     {
-        if self.gathered.write_byte_record(line).is_err() {
+        if self.rendered.write_byte_record(line).is_err() {
             return Err(self.no_memory());
         }
-        if self.gathered.get_ref().len() < PIECE_BYTES {
+        if self.rendered.get_ref().len() < PIECE_BYTES {
             return Ok(());
         }
-        self.hand_over(out)
+        self.put_rendered(out)
     }
 
-    /// Passes on the buffer and then the text, and frees the memory of the text.
-    pub fn write_text<W: Write>(
-        &mut self,
-        text: Vec<u8>,
-        out: &mut Out<W>,
-    ) -> Result<(), WriteFault>
+    /// Puts the rendered records and then this text.
+    pub fn write_text<W: Write>(&mut self, text: &[u8], out: &mut Out<W>) -> Result<(), WriteFault>
         ensures { Writes (at (W.contents (writer_of out.old)) (has_failed out.old) self.old)
-            (at (W.contents (writer_of out.new)) (has_failed out.new) self.new) text.items result }
+            (at (W.contents (writer_of out.new)) (has_failed out.new) self.new) text.now result }
     {
-        self.hand_over(out)?;
-        self.gathered = writer_into(text);
-        self.hand_over(out)?;
-        self.gathered = writer_into(Vec::new(self.alloc));
-        Ok(())
+        self.put_rendered(out)?;
+        self.text.put(text, out);
+        self.progress(out)
     }
 
-    /// Passes on the buffer, and reuses its memory for later records.
+    /// Passes on all that was written.
     pub fn hand_over<W: Write>(&mut self, out: &mut Out<W>) -> Result<(), WriteFault>
         ensures writes { Writes (at (W.contents (writer_of out.old)) (has_failed out.old) self.old)
             (at (W.contents (writer_of out.new)) (has_failed out.new) self.new) [] result }
         ensures all { OnOk result (gathered_of self.new ≡ []) }
     {
+        self.put_rendered(out)?;
+        self.text.hand_over(out);
+        self.progress(out)
+    }
+
+    // Puts the rendered records, and reuses their memory.
+    fn put_rendered<W: Write>(&mut self, out: &mut Out<W>) -> Result<(), WriteFault>
+        ensures writes { Writes (at (W.contents (writer_of out.old)) (has_failed out.old) self.old)
+            (at (W.contents (writer_of out.new)) (has_failed out.new) self.new) [] result }
+        ensures all { OnOk result (rendered_of self.new ≡ []) }
+    {
         let empty = writer_into(Vec::new(self.alloc));
-        let full = mem::replace(&mut self.gathered, empty);
-        let Ok(mut text) = full.into_inner() else {
+        let full = mem::replace(&mut self.rendered, empty);
+        let Ok(mut records) = full.into_inner() else {
             return Err(self.no_memory());
         };
-        // No real writer takes that many bytes. The test keeps the sum below from overflowing.
-        if text.len() > usize::MAX - self.written {
-            return Err(self.no_memory());
+        self.text.put(records.as_slice(), out);
+        records.clear();
+        self.rendered = writer_into(records);
+        self.progress(out)
+    }
+
+    // Returns the fault of a text that is cut. If the writer has not failed, then the text is longer
+    // than any count, and no memory has room for the next one.
+    fn progress<W: Write>(&self, out: &Out<W>) -> Result<(), WriteFault>
+        ensures whole { OnOk result (is_cut self.now.text ≡ false) }
+        ensures cut { IfErr result (IsCutFault self.now (has_failed out.now)) }
+    {
+        if !self.text.is_cut() {
+            return Ok(());
         }
-        match put_all(text.as_slice(), out) {
-            Ok(()) => {
-                self.written += text.len();
-                text.clear();
-                self.gathered = writer_into(text);
-                Ok(())
-            }
-            Err(cut) => Err(WriteFault {
-                written: self.written + cut.written,
+        let written = self.text.bytes_written();
+        if out.failed() {
+            return Err(WriteFault {
+                written,
                 cause: WriteCause::Device,
-            }),
+            });
         }
+        Err(WriteFault {
+            written,
+            cause: WriteCause::OutOfMemory,
+        })
     }
 }
 

@@ -8,7 +8,7 @@ ghost use Rattle.journal.specs.Events.{accepted_count};
 ghost use Rattle.intake_csv.specs.RowSummary.{IsSummaryOf};
 ghost use Rattle.intake_csv.specs.declared.rows.Row.{Row as AnyRow};
 ghost use Rattle.claim_gate.specs.Terms.{IsFinishedOver};
-ghost use Rattle.remit.specs.RecordWriter.{IsReady, Writes, at, gathered_of};
+ghost use Rattle.remit.specs.RecordWriter.{IsUnused, Writes, at, gathered_of};
 ghost use Rattle.remit.specs.Looked.{looked_up};
 ghost use Rattle.remit.specs.Sections.{MayBePart};
 ghost use Rattle.remit.specs.Records.{header_fields, record_of, total_fields};
@@ -256,9 +256,7 @@ impl<'d, 'j> Report<'d, 'j> {
     /// Starts a remittance with these decisions. Nothing is written yet.
     pub fn new(alloc: Global, decisions: &'d Decisions<'j>) -> Report<'d, 'j>
         ensures decisions { result.decisions.now ≡ decisions.now }
-        ensures gathered { gathered_of result.writer ≡ [] }
-        ensures written { result.writer.written ≡ 0 }
-        ensures ready { IsReady result.writer }
+        ensures unused { IsUnused result.writer }
     {
         Report {
             alloc,
@@ -321,7 +319,7 @@ impl<'d, 'j> Report<'d, 'j> {
         ensures decisions { self.new.decisions ≡ self.old.decisions }
     {
         match part {
-            Ok(text) => self.writer.write_text(text, out),
+            Ok(text) => self.writer.write_text(text.as_slice(), out),
             Err(SectionTooLarge) => self.write_file(terms, provider, out),
         }
     }

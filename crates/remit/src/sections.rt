@@ -1,6 +1,6 @@
 //! The section of a provider's file in the remittance, which one thread renders into memory while
 //! another thread writes the sections of the earlier files.
-ghost use Rattle.std.specs.Prelude.{◌≤◌, ◌-◌, [], get_or, length};
+ghost use Rattle.std.specs.Prelude.{◌≡◌, ◌≤◌, ◌+◌, ◌-◌, ◌*◌, ◌^◌, [], get_or, length, min};
 ghost use Rattle.remit.specs.Looked.{looked_up};
 ghost use Rattle.remit.specs.Sections.{MayBePart};
 
@@ -50,6 +50,8 @@ pub fn render_section(
 // for all sections is bounded by the sizes of the files, whatever the length of the remittance.
 fn held_bytes(terms: &Terms, provider: usize) -> usize
     requires { 1 ≤ provider }
+    ensures { result ≡ min (length (get_or terms.now.files (provider - 1) []) * HELD_PER_BYTE
+        + HELD_BESIDES) (2 ^ 64 - 1) }
 {
     let length = match terms.files().get(provider - 1) {
         Some(file) => file.len(),

@@ -15,7 +15,7 @@ returns-in_err-write_header-clause-refused g c =
     rw (p.1, p.2)
     (λ finished.
     header-refused c.args.terms.now c.args.journal.now (at _ _ c.new-report.result.writer) (at _ _ c.write_header.new.self.writer) c.in_err-write_header.field-0.0
-    (record { gathered = made.gathered; written = made.written; ready = made.ready }) c.in_err-write_header.ensures.writes)
+    made.unused c.in_err-write_header.ensures.writes)
 
 pub write_files-requires : goal.write_files-requires
 write_files-requires g c =
@@ -36,7 +36,7 @@ returns-in_err-write_files-clause-refused g c =
     (λ finished.
     files-refused c.args.terms.now c.args.journal.now (length c.files-files.result.now) c.in-Ok.decisions (at _ _ c.new-report.result.writer)
     (at _ _ c.write_header.new.self.writer) (at _ _ c.write_files.new.self.writer) c.in_err-write_files.field-0.0 finished c.in-Ok.ensures as_many
-    (record { gathered = made.gathered; written = made.written; ready = made.ready }) c.in_ok-write_header.ensures.writes
+    made.unused c.in_ok-write_header.ensures.writes
     (files-same c.in-Ok.decisions c.write_header.new.self.decisions.now c.args.terms.now.plan.names c.args.terms.now.files
     (at _ _ c.write_header.new.self.writer) (at _ _ c.write_files.new.self.writer) (Err c.in_err-write_files.field-0.0) kept c.in_err-write_files.ensures.writes))
 
@@ -53,7 +53,7 @@ returns-in_err-write_total-clause-refused g c =
     (λ finished.
     total-refused c.args.terms.now c.args.journal.now (length c.files-files.result.now) c.in-Ok.decisions (at _ _ c.new-report.result.writer)
     (at _ _ c.write_header.new.self.writer) (at _ _ c.write_files.new.self.writer) (at _ _ c.write_total.new.self.writer) c.in_err-write_total.field-0.0 finished
-    c.in-Ok.ensures as_many (record { gathered = made.gathered; written = made.written; ready = made.ready }) c.in_ok-write_header.ensures.writes
+    c.in-Ok.ensures as_many made.unused c.in_ok-write_header.ensures.writes
     (files-same c.in-Ok.decisions c.write_header.new.self.decisions.now c.args.terms.now.plan.names c.args.terms.now.files
     (at _ _ c.write_header.new.self.writer) (at _ _ c.write_files.new.self.writer) (Ok tt) kept c.in_ok-write_files.ensures.writes) c.in_err-write_total.ensures)
 
@@ -67,7 +67,7 @@ returns-clause-written g c =
     let as_many : length c.files-files.result.now ≡ length c.args.terms.now.files = omega (arith, size, long) in
     ends-written c.args.terms.now c.args.journal.now (length c.files-files.result.now) c.in-Ok.decisions (at _ _ c.new-report.result.writer) (at _ _ c.write_header.new.self.writer)
     (at _ _ c.write_files.new.self.writer) (at _ _ c.write_total.new.self.writer) (at _ _ c.finish.new.self.writer) c.finish.result c.in-Ok.ensures as_many
-    (record { gathered = made.gathered; written = made.written; ready = made.ready }) c.in_ok-write_header.ensures.writes
+    made.unused c.in_ok-write_header.ensures.writes
     (files-same c.in-Ok.decisions c.write_header.new.self.decisions.now c.args.terms.now.plan.names c.args.terms.now.files
     (at _ _ c.write_header.new.self.writer) (at _ _ c.write_files.new.self.writer) (Ok tt) kept c.in_ok-write_files.ensures.writes) c.in_ok-write_total.ensures c.finish.ensures.writes
     c.finish.ensures.all
@@ -82,7 +82,7 @@ returns-clause-refused g c =
     let as_many : length c.files-files.result.now ≡ length c.args.terms.now.files = omega (arith, size, long) in
     ends-refused c.args.terms.now c.args.journal.now (length c.files-files.result.now) c.in-Ok.decisions (at _ _ c.new-report.result.writer) (at _ _ c.write_header.new.self.writer)
     (at _ _ c.write_files.new.self.writer) (at _ _ c.write_total.new.self.writer) (at _ _ c.finish.new.self.writer) c.finish.result c.in-Ok.ensures as_many
-    (record { gathered = made.gathered; written = made.written; ready = made.ready }) c.in_ok-write_header.ensures.writes
+    made.unused c.in_ok-write_header.ensures.writes
     (files-same c.in-Ok.decisions c.write_header.new.self.decisions.now c.args.terms.now.plan.names c.args.terms.now.files
     (at _ _ c.write_header.new.self.writer) (at _ _ c.write_files.new.self.writer) (Ok tt) kept c.in_ok-write_files.ensures.writes) c.in_ok-write_total.ensures c.finish.ensures.writes
 

@@ -15,7 +15,7 @@ returns-in_err-write_header-clause-refused g c =
     rw (p.1, p.2)
     (λ finished.
     header-refused c.args.terms.now c.args.journal.now (at _ _ c.new-report.result.writer) (at _ _ c.write_header.new.self.writer) c.in_err-write_header.field-0.0
-    (record { gathered = made.gathered; written = made.written; ready = made.ready }) c.in_err-write_header.ensures.writes)
+    made.unused c.in_err-write_header.ensures.writes)
 
 pub write_files_by_threads-requires-clause-most : goal.write_files_by_threads-requires-clause-most
 write_files_by_threads-requires-clause-most g c =
@@ -39,7 +39,7 @@ returns-in_err-write_files_by_threads-clause-refused g c =
     (λ finished.
     files-refused c.args.terms.now c.args.journal.now (length c.files-files.result.now) c.in-Ok.decisions (at _ _ c.new-report.result.writer)
     (at _ _ c.write_header.new.self.writer) (at _ _ c.write_files_by_threads.new.report.writer) c.in_err-write_files_by_threads.field-0.0 finished c.in-Ok.ensures as_many
-    (record { gathered = made.gathered; written = made.written; ready = made.ready }) c.in_ok-write_header.ensures.writes written)
+    made.unused c.in_ok-write_header.ensures.writes written)
 
 pub returns-in_err-write_total-clause-refused : goal.returns-in_err-write_total-clause-refused
 returns-in_err-write_total-clause-refused g c =
@@ -58,7 +58,7 @@ returns-in_err-write_total-clause-refused g c =
     total-refused c.args.terms.now c.args.journal.now (length c.files-files.result.now) c.in-Ok.decisions (at _ _ c.new-report.result.writer)
     (at _ _ c.write_header.new.self.writer) (at _ _ c.write_files_by_threads.new.report.writer)
     (at _ _ c.write_total.new.self.writer) c.in_err-write_total.field-0.0 finished c.in-Ok.ensures as_many
-    (record { gathered = made.gathered; written = made.written; ready = made.ready }) c.in_ok-write_header.ensures.writes written c.in_err-write_total.ensures)
+    made.unused c.in_ok-write_header.ensures.writes written c.in_err-write_total.ensures)
 
 pub returns-clause-written : goal.returns-clause-written
 returns-clause-written g c =
@@ -74,7 +74,7 @@ returns-clause-written g c =
     ends-written c.args.terms.now c.args.journal.now (length c.files-files.result.now) c.in-Ok.decisions (at _ _ c.new-report.result.writer)
     (at _ _ c.write_header.new.self.writer) (at _ _ c.write_files_by_threads.new.report.writer)
     (at _ _ c.write_total.new.self.writer) (at _ _ c.finish.new.self.writer) c.finish.result c.in-Ok.ensures as_many
-    (record { gathered = made.gathered; written = made.written; ready = made.ready }) c.in_ok-write_header.ensures.writes written c.in_ok-write_total.ensures
+    made.unused c.in_ok-write_header.ensures.writes written c.in_ok-write_total.ensures
     c.finish.ensures.writes c.finish.ensures.all
 
 pub returns-clause-refused : goal.returns-clause-refused
@@ -91,7 +91,7 @@ returns-clause-refused g c =
     ends-refused c.args.terms.now c.args.journal.now (length c.files-files.result.now) c.in-Ok.decisions (at _ _ c.new-report.result.writer)
     (at _ _ c.write_header.new.self.writer) (at _ _ c.write_files_by_threads.new.report.writer)
     (at _ _ c.write_total.new.self.writer) (at _ _ c.finish.new.self.writer) c.finish.result c.in-Ok.ensures as_many
-    (record { gathered = made.gathered; written = made.written; ready = made.ready }) c.in_ok-write_header.ensures.writes written c.in_ok-write_total.ensures
+    made.unused c.in_ok-write_header.ensures.writes written c.in_ok-write_total.ensures
     c.finish.ensures.writes
 
 pub returns-clause-device : goal.returns-clause-device

@@ -6,7 +6,7 @@ use Rattle.remit.proofs.record_writer.RecordWriter.write.Goals as goal
 
 pub returns-then-is_err : goal.returns-then-is_err
 returns-then-is_err g c =
-    no-memory _ _ c.args.self.now (record c.args.self.now { gathered = c.write_byte_record.new.self }) (record_text (fields_of c.args.line.now)) c.no_memory.result
+    no-memory _ _ c.args.self.now (record c.args.self.now { rendered = c.write_byte_record.new.self }) (record_text (fields_of c.args.line.now)) c.no_memory.result
     (record { written = c.no_memory.ensures.written; cause = c.no_memory.ensures.cause })
 
 pub returns-then-len-lt-PIECE_BYTES : goal.returns-then-len-lt-PIECE_BYTES
@@ -20,6 +20,6 @@ pub returns : goal.returns
 returns g c =
     let done = c.write_byte_record in
     let ok : is_err done.result ≡ false = cc (c.is_err.ensures.value, c.if-is_err.false) in
-    gathers-and-hands _ _ _ _ c.hand_over.result
+    gathers-and-hands _ _ _ _ c.put_rendered.result
     (gathers-record _ _ c.args.self.now _ (fields_of c.args.line.now) refl (on-ok done.result _ ok done.ensures.bytes) (on-ok done.result _ ok done.ensures.ended)
-    (on-ok done.result _ ok done.ensures.clean) (on-ok done.result _ ok done.ensures.setup)) c.hand_over.ensures.writes
+    (on-ok done.result _ ok done.ensures.clean) (on-ok done.result _ ok done.ensures.setup)) c.put_rendered.ensures.writes
