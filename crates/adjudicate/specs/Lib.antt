@@ -4,5 +4,4 @@ pub mod ErrorsText
 pub mod Findings
 pub mod Stop
 pub mod RunText
-pub mod BufferedOut
 pub mod RunStop

@@ -9,11 +9,10 @@ ghost use Rattle.evaluation.specs.Stop.{PutsUntil, RefusesPlan, WritesText, Writ
 ghost use Rattle.adjudicate.specs.CheckText.{IsCheckText};
 ghost use Rattle.adjudicate.specs.ErrorsText.{IsErrorsCheckText};
 ghost use Rattle.adjudicate.specs.Findings.{IsReportedText};
-ghost use Rattle.adjudicate.specs.BufferedOut.{greatest_count};
+ghost use Rattle.fixpoint.specs.BufferedOut.{greatest_count};
 ghost use Rattle.adjudicate.specs.Stop.{WritesUntil, IsPlanReason, failed_after};
 ghost use Rattle.adjudicate.specs.CheckReport.{reported_text};
 
-pub mod buffered_out;
 pub mod report;
 pub mod text;
 

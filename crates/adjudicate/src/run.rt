@@ -43,6 +43,9 @@ pub struct RunInput<'a> {
 /// remittance of one journal: each provider's accepted claims are the first of its file, once each and in its order, as
 /// many in all as the cutoff admits, and each family's claims are decided in order of acceptance, each by the tables'
 /// value at the accumulators left before it.
+///
+/// If the plan keeps accumulators by benefit year, those left before a claim are those that the
+/// earlier claims of the year of its service have left.
 pub fn do_run<R: Threads + Wait + Sync + AllocGlobal, W: Write>(
     rt: &R,
     input: RunInput,

@@ -10,6 +10,7 @@ ghost use Rattle.adjudicate.specs.CheckReport.{IsReported, IsReportedOf, column_
 
 use cutplan::{Region, cell_count, check_table, gap_is_error, overlap_is_error};
 use dtable::{Plan, Sequence};
+use faults::Ordinal;
 use feel_tests::{Literals, Value, append_joined};
 use std::alloc::{AllocError, Global};
 use std::marker::Model;
@@ -116,7 +117,7 @@ pub fn check_report(
         overlaps: 0,
     };
     for place in 0..plan.tables().len() {
-        let table = table_report(alloc, plan, place + 1, findings)?;
+        let table = table_report(alloc, plan, Ordinal::at(place), findings)?;
         reported.push(table)?;
     }
     Ok(reported)
@@ -150,13 +151,13 @@ fn sum(one: usize, other: usize) -> Result<usize, AllocError>
 fn table_report(
     alloc: Global,
     plan: &Plan,
-    table: usize,
+    table: Ordinal,
     findings: Findings,
 ) -> Result<TableReport, AllocError>
     requires { IsTableNumber plan.now table }
     ensures { IfOk result (IsReported findings plan.now table) }
 {
-    let check = check_table(alloc, plan, table)?;
+    let check = check_table(alloc, plan, table.number())?;
     let is_wide = check.gaps.is_none();
     let overlaps = reported_overlaps(alloc, plan, table, findings, check.overlaps)?;
     let gaps = reported_gaps(alloc, plan, table, findings, check.gaps);
@@ -172,7 +173,7 @@ fn table_report(
 fn reported_overlaps(
     alloc: Global,
     plan: &Plan,
-    table: usize,
+    table: Ordinal,
     findings: Findings,
     overlaps: Vec<(usize, usize)>,
 ) -> Result<Vec<(usize, usize)>, AllocError>
@@ -189,7 +190,7 @@ fn reported_overlaps(
 fn violating_pairs(
     alloc: Global,
     plan: &Plan,
-    table: usize,
+    table: Ordinal,
     overlaps: &[(usize, usize)],
 ) -> Result<Vec<(usize, usize)>, AllocError>
     requires { IsTableNumber plan.now table }
@@ -198,7 +199,7 @@ fn violating_pairs(
 {
     let mut found = Vec::new(alloc);
     for rules in overlaps {
-        if overlap_is_error(plan, table, rules.0, rules.1) {
+        if overlap_is_error(plan, table.number(), rules.0, rules.1) {
             found.push(*rules)?;
         }
     }
@@ -209,7 +210,7 @@ fn violating_pairs(
 fn reported_gaps(
     alloc: Global,
     plan: &Plan,
-    table: usize,
+    table: Ordinal,
     findings: Findings,
     gaps: Option<Vec<u32>>,
 ) -> Vec<u32>
@@ -228,13 +229,13 @@ fn reported_gaps(
     }
 }
 
-fn reports_gaps(plan: &Plan, table: usize, findings: Findings) -> bool
+fn reports_gaps(plan: &Plan, table: Ordinal, findings: Findings) -> bool
     requires { IsTableNumber plan.now table }
     ensures { result ≡ reports_gaps findings plan.now table }
 {
     match findings {
         Findings::All => true,
-        Findings::Errors => gap_is_error(plan, table),
+        Findings::Errors => gap_is_error(plan, table.number()),
     }
 }
 

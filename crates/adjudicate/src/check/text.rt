@@ -5,20 +5,20 @@ ghost use Rattle.std.specs.Prelude.{◌≡◌, ◌+◌, ◌<◌, ◌^◌, ◌++�
 ghost use Rattle.std.specs.Bool.{OnTrue};
 ghost use Rattle.fixpoint.specs.Out.{has_failed, writer_of};
 ghost use Rattle.adjudicate.specs.CheckText.{counts_line, overlap_line, rules_text, wide_line};
-ghost use Rattle.adjudicate.specs.BufferedOut.{EndsText, Puts, at, greatest_count, starting};
+ghost use Rattle.fixpoint.specs.BufferedOut.{EndsText, Puts, at, greatest_count, starting};
 ghost use Rattle.adjudicate.specs.Findings.{text_in};
 ghost use Rattle.adjudicate.specs.CheckReport.{cell_text, reported_gap_line, reported_lines, reported_table_lines, reported_text, reported_wide_lines};
 
-use super::buffered_out::BufferedOut;
 use super::report::{CheckReport, ColumnText, Findings, TableReport, check_report};
 use dtable::Plan;
-use fixpoint::{Out, ShortWrite};
+use faults::Ordinal;
+use fixpoint::{BufferedOut, Out, ShortWrite};
 use itoa::Buffer;
 use std::alloc::{AllocError, Global};
 use std::io::{Write, sink};
 
-/// Checks a plan. No real report has `usize::MAX` bytes; the test of its length makes the number of
-/// bytes in a write fault exact.
+/// Checks a plan. No real report has `usize::MAX` bytes; after the test of its length, the text is cut
+/// only if the writer fails.
 pub fn checked_report(
     alloc: Global,
     plan: &Plan,
@@ -44,7 +44,7 @@ fn is_counted(alloc: Global, reported: &CheckReport) -> bool
     }
 }
 
-/// Writes the text of the report, and returns its length in bytes, or `usize::MAX` if it is longer.
+/// Writes the text of the report, and returns its length in bytes.
 pub fn put_report<W: Write>(
     alloc: Global,
     reported: &CheckReport,
@@ -54,34 +54,34 @@ pub fn put_report<W: Write>(
         (reported_text reported.now) (W.contents (writer_of out.new)) (has_failed out.new) result }
 {
     let mut pieces = BufferedOut::new(alloc);
-    put_tables(1, reported.tables.as_slice(), &mut pieces, out);
+    put_tables(0, reported.tables.as_slice(), &mut pieces, out);
     put_counts(reported.gaps, reported.overlaps, &mut pieces, out);
     pieces.end(out)
 }
 
-// Writes the lines of these tables, the first of which has this number.
+// Writes the lines of these tables, the first of which has this index.
 fn put_tables<W: Write>(
-    number: usize,
+    place: usize,
     tables: &[TableReport],
     pieces: &mut BufferedOut,
     out: &mut Out<W>,
 )
-    requires { number + length tables.now < 2 ^ 64 }
+    requires { place + length tables.now < 2 ^ 64 }
     ensures { Puts (at (W.contents (writer_of out.old)) (has_failed out.old) pieces.old)
         (at (W.contents (writer_of out.new)) (has_failed out.new) pieces.new)
-        (reported_lines number tables.now) }
+        (reported_lines (place + 1) tables.now) }
 {
     match tables.split_first() {
         Some((table, more)) => {
-            put_table(number, table, pieces, out);
-            put_tables(number + 1, more, pieces, out);
+            put_table(Ordinal::at(place), table, pieces, out);
+            put_tables(place + 1, more, pieces, out);
         }
         None => {}
     }
 }
 
 fn put_table<W: Write>(
-    number: usize,
+    number: Ordinal,
     table: &TableReport,
     pieces: &mut BufferedOut,
     out: &mut Out<W>,
@@ -102,7 +102,7 @@ fn put_table<W: Write>(
 }
 
 fn put_overlaps<W: Write>(
-    table: usize,
+    table: Ordinal,
     overlaps: &[(usize, usize)],
     pieces: &mut BufferedOut,
     out: &mut Out<W>,
@@ -118,7 +118,7 @@ fn put_overlaps<W: Write>(
 
 // Writes the line `overlap table T: rules I J`.
 fn put_overlap<W: Write>(
-    table: usize,
+    table: Ordinal,
     first: usize,
     second: usize,
     pieces: &mut BufferedOut,
@@ -128,7 +128,7 @@ fn put_overlap<W: Write>(
         (at (W.contents (writer_of out.new)) (has_failed out.new) pieces.new)
         (overlap_line table (first, second)) }
 {
-    put_numbered("overlap table ", table, pieces, out);
+    put_numbered("overlap table ", table.number(), pieces, out);
     put_rules(first, second, pieces, out);
 }
 
@@ -144,19 +144,19 @@ fn put_rules<W: Write>(first: usize, second: usize, pieces: &mut BufferedOut, ou
 }
 
 // Writes the line `wide table T` if the table is wide.
-fn put_wide<W: Write>(table: usize, is_wide: bool, pieces: &mut BufferedOut, out: &mut Out<W>)
+fn put_wide<W: Write>(table: Ordinal, is_wide: bool, pieces: &mut BufferedOut, out: &mut Out<W>)
     ensures { Puts (at (W.contents (writer_of out.old)) (has_failed out.old) pieces.old)
         (at (W.contents (writer_of out.new)) (has_failed out.new) pieces.new)
         (reported_wide_lines table is_wide) }
 {
     if is_wide {
-        put_numbered("wide table ", table, pieces, out);
+        put_numbered("wide table ", table.number(), pieces, out);
         pieces.put(b"\n", out);
     }
 }
 
 fn put_gaps<W: Write>(
-    table: usize,
+    table: Ordinal,
     columns: &[ColumnText],
     gaps: &[u32],
     pieces: &mut BufferedOut,
@@ -173,7 +173,7 @@ fn put_gaps<W: Write>(
 
 // Writes the line `gap table T: ` with the region of each column.
 fn put_gap<W: Write>(
-    table: usize,
+    table: Ordinal,
     columns: &[ColumnText],
     place: usize,
     pieces: &mut BufferedOut,
@@ -183,7 +183,7 @@ fn put_gap<W: Write>(
         (at (W.contents (writer_of out.new)) (has_failed out.new) pieces.new)
         (reported_gap_line table columns.now place) }
 {
-    put_numbered("gap table ", table, pieces, out);
+    put_numbered("gap table ", table.number(), pieces, out);
     pieces.put(b": ", out);
     put_cell(columns, place, pieces, out);
     pieces.put(b"\n", out);

@@ -1,6 +1,7 @@
 use Rattle.adjudicate.specs.CheckReport.{reported_gap_line}
-use Rattle.adjudicate.specs.BufferedOut.{at}
-use Rattle.adjudicate.proofs.Piecewise.{puts-all, puts-more, puts-none}
+use Rattle.fixpoint.specs.BufferedOut.{at}
+use Rattle.fixpoint.proofs.Buffering.{puts-none}
+use Rattle.adjudicate.proofs.Piecewise.{puts-all, puts-more}
 use Rattle.adjudicate.proofs.check.text.put_gaps.Goals as goal
 
 pub loop-place-init : goal.loop-place-init

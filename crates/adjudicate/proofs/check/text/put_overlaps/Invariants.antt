@@ -1,7 +1,7 @@
 use Rattle.std.proofs.Common.{take, flat_map}
 use Rattle.fixpoint.specs.Out.{has_failed, writer_of}
 use Rattle.adjudicate.specs.CheckText.{overlap_line}
-use Rattle.adjudicate.specs.BufferedOut.{Puts, at}
+use Rattle.fixpoint.specs.BufferedOut.{Puts, at}
 use Rattle.adjudicate.proofs.check.text.put_overlaps.Given as goal
 
 abbrev pub invariant-loop-rules : goal.invariant-loop-rules

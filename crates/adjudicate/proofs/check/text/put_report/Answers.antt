@@ -1,5 +1,5 @@
-use Rattle.adjudicate.specs.BufferedOut.{at}
-use Rattle.adjudicate.proofs.Piecewise.{ends-text, puts-then}
+use Rattle.fixpoint.specs.BufferedOut.{at}
+use Rattle.fixpoint.proofs.Buffering.{ends-text, puts-then}
 use Rattle.adjudicate.proofs.check.text.put_report.Goals as goal
 
 pub returns : goal.returns

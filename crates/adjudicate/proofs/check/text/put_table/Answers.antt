@@ -1,4 +1,4 @@
-use Rattle.adjudicate.specs.BufferedOut.{at}
+use Rattle.fixpoint.specs.BufferedOut.{at}
 use Rattle.adjudicate.proofs.Piecewise.{puts-three}
 use Rattle.adjudicate.proofs.check.text.put_table.Goals as goal
 
