@@ -1,13 +1,18 @@
 //! Explains a fault of a file of claims or balances, and names the columns that it is about.
 
-use crate::file_texts::{file_words, record_words};
+use crate::file_texts::{file_explanation, record_explanation};
 use crate::message::Message;
-use crate::places::Step;
-use crate::plan_node::{count_at, value_at};
+use crate::plan_node::{items_after, text_after, version_of};
 use csv::{ByteRecord, ReaderBuilder};
-use faults::{FileFault, RowFault};
+use faults::{FileFault, RowFault, names};
 use std::alloc::{AllocError, Global};
 use toml::Value;
+
+/// The first version of a plan with accumulators for families.
+const FAMILIES_SINCE: i64 = 3;
+
+/// The first version of a plan with accumulators by benefit year.
+const YEARS_SINCE: i64 = 2;
 
 /// The content of a file.
 #[derive(Clone, Copy, PartialEq, Eq)]
@@ -46,11 +51,22 @@ pub fn explain_file(
     let mut message = Message::new(alloc);
     message.line(&[name])?;
     if let Some(problem) = HeaderProblem::of(fault) {
-        let header = header_of(alloc, text)?;
-        add_columns(alloc, &mut message, &header, plan, kind, problem)?;
+        add_header(alloc, &mut message, text, plan, kind, problem)?;
     }
-    message.words(file_words(fault))?;
+    message.words(file_explanation(fault))?;
     Ok(message)
+}
+
+fn add_header(
+    alloc: Global,
+    message: &mut Message,
+    text: &[u8],
+    plan: &[u8],
+    kind: FileKind,
+    problem: HeaderProblem,
+) -> Result<(), AllocError> {
+    let header = header_of(alloc, text)?;
+    add_columns(alloc, message, &header, plan, kind, problem)
 }
 
 /// Explains the fault of a record of balances in a file of this name. Records count from 1 after the header.
@@ -61,17 +77,29 @@ pub fn explain_record(
     number: usize,
     fault: &RowFault,
 ) -> Result<Message, AllocError> {
-    let mut message = Message::new(alloc);
     let header = header_of(alloc, text)?;
-    let column = column_name(&header, fault.column);
-    let record = format!(in alloc; "{name}, record {number} after the header")?;
-    if column.is_empty() {
-        message.line(&[record.as_str()])?;
-    } else {
-        message.line(&[record.as_str(), ", column ", column])?;
-    }
-    message.words(record_words(fault.cause))?;
+    let mut message = Message::new(alloc);
+    add_record(
+        &mut message,
+        name,
+        column_name(&header, fault.column),
+        number,
+    )?;
+    message.words(record_explanation(fault.cause))?;
     Ok(message)
+}
+
+fn add_record(
+    message: &mut Message,
+    name: &str,
+    column: &str,
+    number: usize,
+) -> Result<(), AllocError> {
+    if column.is_empty() {
+        message.push_line(format_args!("{name}, record {number} after the header"))
+    } else {
+        message.push_line(format_args!("{name}, record {number} after the header, column {column}"))
+    }
 }
 
 // Column 0 is the record as a whole, which has no name.
@@ -106,14 +134,31 @@ fn add_columns(
     for name in required_columns(kind) {
         add_column(message, header, name, problem)?;
     }
-    let Ok(members) = toml::table_from_slice(alloc, plan) else {
-        return Ok(());
-    };
-    let document = Value::Table(members);
-    add_since(message, header, &document, (3, "family"), problem)?;
+    match toml::table_from_slice(alloc, plan) {
+        Ok(members) => add_columns_of_plan(message, header, &Value::Table(members), kind, problem),
+        Err(fault) if fault.is_memory() => Err(AllocError),
+        Err(_) => Ok(()),
+    }
+}
+
+// Adds the columns that some plans require.
+fn add_columns_of_plan(
+    message: &mut Message,
+    header: &ByteRecord,
+    plan: &Value,
+    kind: FileKind,
+    problem: HeaderProblem,
+) -> Result<(), AllocError> {
+    let version = version_of(plan).unwrap_or(1);
+    if version >= FAMILIES_SINCE {
+        add_column(message, header, names::FAMILY, problem)?;
+    }
     match kind {
-        FileKind::Claims => add_fields(message, header, &document, problem),
-        FileKind::Balances => add_since(message, header, &document, (2, "year"), problem),
+        FileKind::Claims => add_fields(message, header, plan, problem),
+        FileKind::Balances if version >= YEARS_SINCE => {
+            add_column(message, header, names::YEAR, problem)
+        }
+        FileKind::Balances => Ok(()),
     }
 }
 
@@ -123,36 +168,19 @@ fn add_fields(
     plan: &Value,
     problem: HeaderProblem,
 ) -> Result<(), AllocError> {
-    for place in 0..count_at(plan, &[], "fields") {
-        let steps = [Step::Key("fields"), Step::Item(place), Step::Key("name")];
-        if let Some(name) = value_at(plan, &steps).and_then(Value::as_str) {
+    for field in items_after(Some(plan), "fields") {
+        if let Some(name) = text_after(Some(field), "name") {
             add_column(message, header, name, problem)?;
         }
     }
     Ok(())
 }
 
-// The column is required from a version of the plan on.
-fn add_since(
-    message: &mut Message,
-    header: &ByteRecord,
-    plan: &Value,
-    needed: (i64, &str),
-    problem: HeaderProblem,
-) -> Result<(), AllocError> {
-    let (first, name) = needed;
-    let steps = [Step::Key("version")];
-    match value_at(plan, &steps).and_then(Value::as_integer) {
-        Some(version) if version >= first => add_column(message, header, name, problem),
-        _ => Ok(()),
-    }
-}
-
 // The columns that are required under each version of the plan.
 fn required_columns(kind: FileKind) -> &'static [&'static str] {
     match kind {
-        FileKind::Claims => &["claim", "member", "service", "billed"],
-        FileKind::Balances => &["member", "met", "oop", "paid"],
+        FileKind::Claims => &[names::CLAIM, names::MEMBER, names::SERVICE, names::BILLED],
+        FileKind::Balances => &[names::MEMBER, names::MET, names::OOP, names::PAID],
     }
 }
 

@@ -1,17 +1,33 @@
 //! Adds hints: what exactly is wrong at the place of a plan's fault, as far as the document shows it.
 
 use crate::cell_hints::{BadCell, Hint};
-use crate::edits::is_one_edit;
-use crate::kind::kind_of;
-use crate::message::Message;
+use crate::input_name::{add_unknown, near_key};
+use crate::kind::{Kind, kind_of};
+use crate::message::{Message, shown_front};
 use crate::places::Step;
 use crate::plan_node::{
-    Column, count_at, items_after, role_name, tables, text_after, text_at, value_at,
+    Column, count_at, has_single_values, items_after, path_to_table, tables, text_after, text_at,
+    value_at,
 };
-use crate::texts::{Explanation, cause_and_remedy, plan_words};
-use faults::{CellFault, PlanCause, PlanFault};
+use crate::shape::{Shape, Type};
+use crate::texts::{Explanation, Level, level_of, plan_explanation};
+use faults::{CellFault, PlanCause, PlanFault, RoleKey};
 use std::alloc::AllocError;
 use toml::Value;
+
+/// The key at the place of a plan's fault that the fault is about, if it is about one.
+pub fn key_of_fault(
+    document: &Value,
+    entry: Option<&Value>,
+    fault: &PlanFault,
+) -> Option<&'static str> {
+    match fault.cause {
+        PlanCause::Kind => shape_of(document, fault).mistyped_key(entry?),
+        PlanCause::Unknown if level_of(fault) == Level::Plan => Some("version"),
+        PlanCause::Hit => Some("hit"),
+        _ => None,
+    }
+}
 
 /// Adds a line that says what is wrong, where the document at the fault's place shows more than the cause does.
 pub fn add_hints(
@@ -20,25 +36,31 @@ pub fn add_hints(
     entry: Option<&Value>,
     fault: &PlanFault,
 ) -> Result<(), AllocError> {
+    let shape = shape_of(document, fault);
     match fault.cause {
-        PlanCause::Missing => add_missing_key(message, entry, wanted_keys(document, fault)),
+        PlanCause::Missing => add_missing_key(message, entry, shape.required_keys(), shape.keys()),
         PlanCause::Role => add_role(message, document, fault.column),
-        PlanCause::Kind if fault.rule > 0 && fault.column > 0 => Ok(()),
-        PlanCause::Kind if fault.rule > 0 => add_counts(message, document, entry, fault.table),
-        PlanCause::Kind => add_kind(message, entry),
-        PlanCause::Unknown => add_unknown(message, document, entry),
-        _ => Ok(()),
+        PlanCause::Kind => add_wrong_value(message, document, entry, shape, fault.table),
+        PlanCause::Unknown => add_unknown(message, document, entry, fault.table),
+        PlanCause::Hit => add_hit_policy(message, entry),
+        PlanCause::Toml
+        | PlanCause::Duplicate
+        | PlanCause::Priority
+        | PlanCause::Money
+        | PlanCause::Limit
+        | PlanCause::Cell(_)
+        | PlanCause::OutOfMemory => Ok(()),
     }
 }
 
 /// The cause of a plan's fault and its fix. The text of a cell and the kind of its column may show which fix is the right one.
-pub fn words_at(document: &Value, entry: Option<&Value>, fault: &PlanFault) -> Explanation {
-    let words = plan_words(fault);
+pub fn explanation_at(document: &Value, entry: Option<&Value>, fault: &PlanFault) -> Explanation {
+    let words = plan_explanation(fault);
     match fault.cause {
         PlanCause::Cell(cell) => {
             let column = Column::of(document, fault.table, fault.column);
             match cell_advice(document, entry, &column, cell) {
-                Some(hint) => cause_and_remedy(words.meaning, hint.words()),
+                Some(hint) => Explanation::new(words.cause, hint.words()),
                 None => words,
             }
         }
@@ -46,33 +68,29 @@ pub fn words_at(document: &Value, entry: Option<&Value>, fault: &PlanFault) -> E
     }
 }
 
-// The required keys of the part of the plan that a fault names.
-fn wanted_keys(document: &Value, fault: &PlanFault) -> &'static [&'static str] {
-    let steps = [
-        Step::Key("tables"),
-        Step::Item(fault.table.saturating_sub(1)),
-    ];
-    if fault.rule > 0 {
-        &["when", "then"]
-    } else if fault.column == 0 && fault.table == 0 {
-        &["version"]
-    } else if fault.column == 0 {
-        &["inputs", "outputs", "rules"]
-    } else if fault.table > 0 && fault.column <= count_at(document, &steps, "inputs") {
-        &["name"]
-    } else {
-        &["name", "kind"]
+// The part of the plan that a fault is located at.
+fn shape_of(document: &Value, fault: &PlanFault) -> Shape {
+    match level_of(fault) {
+        Level::Plan => Shape::Plan,
+        Level::Field => Shape::Field,
+        Level::Table => Shape::Table,
+        Level::Column if Column::of(document, fault.table, fault.column).is_input => Shape::Input,
+        Level::Column => Shape::Output,
+        Level::Rule => Shape::Rule,
+        Level::Cell => Shape::Plain,
     }
 }
 
+// Adds the first one of the wanted keys that the entry does not have.
 fn add_missing_key(
     message: &mut Message,
     entry: Option<&Value>,
     wanted: &[&'static str],
+    known: &[&'static str],
 ) -> Result<(), AllocError> {
     for key in wanted {
         if !has_key(entry, key) {
-            return match near_key(entry, key, wanted) {
+            return match near_key(entry, key, known) {
                 Some(near) => message.push_line(format_args!(
                     "The key `{key}` is missing; the key `{near}` may be a misspelling of it."
                 )),
@@ -90,24 +108,17 @@ fn has_key(entry: Option<&Value>, key: &str) -> bool {
     }
 }
 
-// A key of an entry that may be a misspelling. A known key is not one: `when` is one edit away from `then`.
-fn near_key<'d>(entry: Option<&'d Value>, wanted: &str, known: &[&'static str]) -> Option<&'d str> {
-    for (key, _) in entry?.as_table()? {
-        let word = key.as_str();
-        if is_one_edit(word.as_bytes(), wanted.as_bytes()) && !known.contains(&word) {
-            return Some(word);
-        }
-    }
-    None
-}
-
 fn add_role(message: &mut Message, document: &Value, number: usize) -> Result<(), AllocError> {
-    let name = role_name(number);
+    let Some(role) = RoleKey::with_number(number) else {
+        return Ok(());
+    };
+    let name = role.key();
     let Some(value) = value_at(document, &[Step::Key("roles"), Step::Key(name)]) else {
-        return add_missing_key(message, value_at(document, &[Step::Key("roles")]), &[name]);
+        let roles = value_at(document, &[Step::Key("roles")]);
+        return add_missing_key(message, roles, &[name], Shape::Roles.keys());
     };
     match value.as_str() {
-        Some(word) => add_word_of_role(message, document, number, word),
+        Some(word) => add_word_of_role(message, document, role, shown_front(word)),
         None => message.push_line(format_args!(
             "The role `{name}` must be a string: put quotes round a number, too, as in \"50\"."
         )),
@@ -117,15 +128,21 @@ fn add_role(message: &mut Message, document: &Value, number: usize) -> Result<()
 fn add_word_of_role(
     message: &mut Message,
     document: &Value,
-    number: usize,
+    role: RoleKey,
     word: &str,
 ) -> Result<(), AllocError> {
-    match number {
-        1 => add_single_values(message, document, word, "flag"),
-        7 => message.push_line(format_args!(
+    match role {
+        RoleKey::Cover => add_single_values(message, document, word, "flag"),
+        RoleKey::Remarks => message.push_line(format_args!(
             "`{word}` is not a text output of a table under `R`, `O` or `C`."
         )),
-        _ => add_single_values(message, document, word, "number"),
+        RoleKey::Fee
+        | RoleKey::Deductible
+        | RoleKey::Copay
+        | RoleKey::Rate
+        | RoleKey::OopMax
+        | RoleKey::FamilyDeductible
+        | RoleKey::FamilyOopMax => add_single_values(message, document, word, "number"),
     }
 }
 
@@ -160,10 +177,6 @@ fn push_single_values(
     Ok(())
 }
 
-fn has_single_values(table: &Value) -> bool {
-    !matches!(text_after(Some(table), "hit"), Some("R" | "O" | "C"))
-}
-
 // Appends the names of the entries of this kind to `before` names, and returns the new number of names.
 fn push_names(
     message: &mut Message,
@@ -186,22 +199,68 @@ fn push_name(message: &mut Message, before: usize, name: &str) -> Result<(), All
     message.push(name)
 }
 
+// Adds what is wrong with the value of a key of an entry, or with the entry itself.
+fn add_wrong_value(
+    message: &mut Message,
+    document: &Value,
+    entry: Option<&Value>,
+    shape: Shape,
+    table: usize,
+) -> Result<(), AllocError> {
+    let Some(value) = entry else {
+        return Ok(());
+    };
+    if let Some(key) = shape.mistyped_key(value) {
+        let wanted = Type::at(key).name();
+        return message.push_line(format_args!("The value of `{key}` must be {wanted}."));
+    }
+    match shape {
+        Shape::Field | Shape::Input | Shape::Output => add_wrong_word(message, entry),
+        Shape::Rule => add_counts(message, document, entry, table),
+        _ => Ok(()),
+    }
+}
+
+fn add_wrong_word(message: &mut Message, entry: Option<&Value>) -> Result<(), AllocError> {
+    if let Some(name) = text_after(entry, "name")
+        && !has_name_form(name.as_bytes())
+    {
+        return message.push_line(format_args!("`{name}` does not have the form of a name."));
+    }
+    match text_after(entry, "kind") {
+        Some(word) if Kind::of_word(word).is_none() => message.push_line(format_args!(
+            "`{word}` is not a kind; the kinds are `number`, `text`, `flag` and `day`."
+        )),
+        _ => Ok(()),
+    }
+}
+
+fn has_name_form(name: &[u8]) -> bool {
+    match name.first() {
+        None => false,
+        Some(first) if first.is_ascii_digit() => false,
+        Some(_) => name
+            .iter()
+            .all(|byte| byte.is_ascii_alphanumeric() || *byte == b'_'),
+    }
+}
+
 fn add_counts(
     message: &mut Message,
     document: &Value,
     rule: Option<&Value>,
     table: usize,
 ) -> Result<(), AllocError> {
-    let columns = [Step::Key("tables"), Step::Item(table.saturating_sub(1))];
+    let path = path_to_table(table);
     let cells = items_after(rule, "when").len();
-    let inputs = count_at(document, &columns, "inputs");
+    let inputs = count_at(document, path.as_slice(), "inputs");
     if cells != inputs {
         return message.push_line(format_args!(
             "The number of cells in `when` is {cells}, and the number of inputs is {inputs}."
         ));
     }
     let literals = items_after(rule, "then").len();
-    let outputs = count_at(document, &columns, "outputs");
+    let outputs = count_at(document, path.as_slice(), "outputs");
     if literals != outputs {
         return message.push_line(format_args!(
             "The number of literals in `then` is {literals}, and the number of outputs is {outputs}."
@@ -210,62 +269,17 @@ fn add_counts(
     Ok(())
 }
 
-fn add_kind(message: &mut Message, entry: Option<&Value>) -> Result<(), AllocError> {
-    match text_after(entry, "kind") {
-        None | Some("number" | "text" | "flag" | "day") => Ok(()),
-        Some(word) => message.push_line(format_args!(
-            "`{word}` is not a kind; the kinds are `number`, `text`, `flag` and `day`."
-        )),
-    }
-}
-
-fn add_unknown(
-    message: &mut Message,
-    document: &Value,
-    entry: Option<&Value>,
-) -> Result<(), AllocError> {
-    let Some(name) = text_after(entry, "name") else {
-        return Ok(());
-    };
-    match near_value(document, name) {
-        Some(near) => message.push_line(format_args!(
-            "Unknown input `{name}`; did you mean `{near}`?"
-        )),
-        None => add_unlike(message, document, name),
-    }
-}
-
-// Where the key `fields` is misspelt, no field is known.
-fn add_unlike(message: &mut Message, document: &Value, name: &str) -> Result<(), AllocError> {
-    match near_key(Some(document), "fields", &["fields"]) {
-        Some(near) if document.get("fields").is_none() => message.push_line(format_args!(
-            "Unknown input `{name}`. The key `fields` is missing; the key `{near}` may be a misspelling of it."
-        )),
-        _ => message.push_line(format_args!("Unknown input `{name}`.")),
-    }
-}
-
-// The first name of a field or an output that is one edit away from the given one.
-fn near_value<'d>(document: &'d Value, name: &str) -> Option<&'d str> {
-    if let Some(near) = near_name(items_after(Some(document), "fields"), name) {
-        return Some(near);
-    }
-    for table in tables(document) {
-        if let Some(near) = near_name(items_after(Some(table), "outputs"), name) {
-            return Some(near);
+fn add_hit_policy(message: &mut Message, table: Option<&Value>) -> Result<(), AllocError> {
+    match text_after(table, "hit") {
+        Some(word) if !hit_policies().contains(&word) => {
+            message.push_line(format_args!("`{word}` is not a hit policy."))
         }
+        _ => Ok(()),
     }
-    None
 }
 
-fn near_name<'d>(entries: &'d [Value], name: &str) -> Option<&'d str> {
-    for entry in entries {
-        let near = text_at(entry, &[], "name");
-        if is_one_edit(near.as_bytes(), name.as_bytes()) {
-            return Some(near);
-        }
-    }
-    None
+fn hit_policies() -> &'static [&'static str] {
+    &["U", "A", "P", "F", "O", "R", "C", "C+", "C<", "C>", "C#"]
 }
 
 fn cell_advice(

@@ -1,6 +1,7 @@
 //! The kinds of a plan's columns, by its document.
 
 use crate::plan_node::{Column, items_after, tables, text_after, text_at};
+use faults::names;
 use toml::Value;
 
 /// A kind of values: the document's, which may be of a plan that is not valid.
@@ -13,7 +14,8 @@ pub enum Kind {
 }
 
 impl Kind {
-    fn of_word(word: &str) -> Option<Kind> {
+    /// The kind that a plan calls so.
+    pub fn of_word(word: &str) -> Option<Kind> {
         match word {
             "number" => Some(Kind::Number),
             "text" => Some(Kind::Text),
@@ -36,7 +38,7 @@ pub fn kind_of(document: &Value, column: &Column<'_>) -> Option<Kind> {
     }
     match kind_of_own(document, column.name) {
         Some(kind) => Some(kind),
-        None => kind_from_the_start(column.name),
+        None => kind_of_built_in(column.name),
     }
 }
 
@@ -70,11 +72,30 @@ fn read_kind_of(table: &Value, kind: Kind) -> Kind {
     }
 }
 
-fn kind_from_the_start(name: &str) -> Option<Kind> {
-    match name {
-        "claim" | "member" | "family" => Some(Kind::Text),
-        "service" => Some(Kind::Day),
-        "billed" | "met" | "oop" | "paid" | "fmet" | "foop" => Some(Kind::Number),
-        _ => None,
+// The names that every plan may read, and those of a plan with families.
+fn kind_of_built_in(name: &str) -> Option<Kind> {
+    if text_names().contains(&name) {
+        Some(Kind::Text)
+    } else if number_names().contains(&name) {
+        Some(Kind::Number)
+    } else if name == names::SERVICE {
+        Some(Kind::Day)
+    } else {
+        None
     }
+}
+
+fn text_names() -> &'static [&'static str] {
+    &[names::CLAIM, names::MEMBER, names::FAMILY]
+}
+
+fn number_names() -> &'static [&'static str] {
+    &[
+        names::BILLED,
+        names::MET,
+        names::OOP,
+        names::PAID,
+        names::FAMILY_MET,
+        names::FAMILY_OOP,
+    ]
 }

@@ -82,15 +82,6 @@ impl Places {
         self.nodes.get(here).map_or(0, |node| node.value_at)
     }
 
-    /// The offset of the key at the end of the steps, if it exists.
-    pub fn key_at(&self, steps: &[Step]) -> Option<usize> {
-        let mut here = 0;
-        for step in steps {
-            here = self.child(here, *step)?;
-        }
-        self.nodes.get(here).map(|node| node.at)
-    }
-
     fn child(&self, parent: usize, step: Step) -> Option<usize> {
         match step {
             Step::Key(key) => self.value_of(parent, key),

@@ -1,9 +1,9 @@
 //! Explains a plan's fault, and where it is in the plan's text.
 
-use crate::hints::{add_hints, words_at};
+use crate::hints::{add_hints, explanation_at, key_of_fault};
 use crate::message::Message;
-use crate::plan_node::{add_what, value_at, way_of};
-use crate::texts::{Level, level_of, plan_words};
+use crate::plan_node::{add_part_name, path_to_fault, value_at};
+use crate::texts::{Level, level_of, plan_explanation};
 use faults::{PlanCause, PlanFault};
 use std::alloc::{AllocError, Global};
 use toml::Value;
@@ -19,7 +19,7 @@ pub fn explain_plan(
     if matches!(fault.cause, PlanCause::Limit) && level_of(fault) == Level::Plan {
         // A text over its limit is read no further than to the limit, so no place in it can be right.
         message.line(&[name])?;
-        message.words(plan_words(fault))?;
+        message.words(plan_explanation(fault))?;
     } else {
         add_text(alloc, &mut message, name, text, fault)?;
     }
@@ -37,7 +37,7 @@ fn add_text(
         Ok(members) => add_place(message, name, text, &Value::Table(members), fault),
         Err(refusal) => {
             add_refusal(message, name, text, &refusal)?;
-            message.words(plan_words(fault))
+            message.words(plan_explanation(fault))
         }
     }
 }
@@ -67,12 +67,16 @@ fn add_place(
     document: &Value,
     fault: &PlanFault,
 ) -> Result<(), AllocError> {
-    let way = way_of(document, fault);
+    let path = path_to_fault(document, fault);
+    let value = value_at(document, path.as_slice());
+    let place = match key_of_fault(document, value, fault) {
+        Some(key) => path.key(key),
+        None => path,
+    };
     if let Ok(text) = str::from_utf8(text) {
-        message.place_of(name, text, way.as_slice())?;
+        message.place_of(name, text, place.as_slice())?;
     }
-    add_what(message, document, fault)?;
-    let value = value_at(document, way.as_slice());
+    add_part_name(message, document, fault)?;
     if let PlanCause::Cell(cell) = fault.cause
         && let Some(value) = value
         && let Some(text) = value.as_str()
@@ -80,5 +84,5 @@ fn add_place(
         message.mark(text, cell.at)?;
     }
     add_hints(message, document, value, fault)?;
-    message.words(words_at(document, value, fault))
+    message.words(explanation_at(document, value, fault))
 }

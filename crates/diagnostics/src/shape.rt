@@ -1,4 +1,7 @@
-//! The keys of a plan, and the kind of value that each has.
+//! The parts of a plan: the keys of each, and what their values must be.
+
+use faults::{FAMILY_ROLE_KEYS, ROLE_KEYS};
+use toml::Value;
 
 /// The part of a plan that a value is.
 #[derive(Clone, Copy, PartialEq, Eq)]
@@ -22,7 +25,7 @@ pub enum Shape {
 }
 
 impl Shape {
-    /// The keys of this part.
+    /// The keys of this part, in the order in which they are read.
     pub fn keys(self) -> &'static [&'static str] {
         match self {
             Shape::Plan => &["version", "fields", "tables", "roles"],
@@ -31,15 +34,19 @@ impl Shape {
             Shape::Input => &["name", "values"],
             Shape::Output => &["name", "kind", "priority", "default"],
             Shape::Rule => &["when", "then"],
-            Shape::Roles => &[
-                "cover",
-                "fee",
-                "deductible",
-                "copay",
-                "rate",
-                "oop_max",
-                "remarks",
-            ],
+            Shape::Roles => &ROLE_KEYS,
+            _ => &[],
+        }
+    }
+
+    /// The keys that this part must have, without those of roles.
+    pub fn required_keys(self) -> &'static [&'static str] {
+        match self {
+            Shape::Plan => &["version"],
+            Shape::Field | Shape::Output => &["name", "kind"],
+            Shape::Table => &["inputs", "outputs", "rules"],
+            Shape::Input => &["name"],
+            Shape::Rule => &["when", "then"],
             _ => &[],
         }
     }
@@ -47,7 +54,7 @@ impl Shape {
     /// The further keys of this part in a plan with families (version 3).
     pub fn family_keys(self) -> &'static [&'static str] {
         match self {
-            Shape::Roles => &["family_deductible", "family_oop_max"],
+            Shape::Roles => &FAMILY_ROLE_KEYS,
             _ => &[],
         }
     }
@@ -80,6 +87,65 @@ impl Shape {
             Shape::Rules => Shape::Rule,
             Shape::UnusedKey => Shape::UnusedKey,
             _ => Shape::Plain,
+        }
+    }
+
+    /// The first key of this part whose value has another type than it must have, or is an empty array and must not be.
+    pub fn mistyped_key(self, entry: &Value) -> Option<&'static str> {
+        for key in self.keys() {
+            if let Some(value) = entry.get(*key)
+                && !Type::at(key).has(value)
+            {
+                return Some(*key);
+            }
+        }
+        None
+    }
+}
+
+/// The type of the value at a key. Each key has the same type in all parts, and those of roles have none here.
+#[derive(Clone, Copy)]
+pub enum Type {
+    Integer,
+    Array,
+    FilledArray,
+    Table,
+    Text,
+}
+
+impl Type {
+    /// The type of the value at a key.
+    pub fn at(key: &str) -> Type {
+        match key {
+            "version" => Type::Integer,
+            "fields" | "tables" | "rules" | "when" | "then" | "priority" => Type::Array,
+            "inputs" | "outputs" => Type::FilledArray,
+            "roles" => Type::Table,
+            _ => Type::Text,
+        }
+    }
+
+    fn has(self, value: &Value) -> bool {
+        match self {
+            Type::Integer => value.as_integer().is_some(),
+            Type::Array => value.as_array().is_some(),
+            Type::FilledArray => match value.as_array() {
+                Some(items) => !items.as_slice().is_empty(),
+                None => false,
+            },
+            Type::Table => value.is_table(),
+            Type::Text => value.as_str().is_some(),
+        }
+    }
+
+    /// The type, as a message names it.
+    pub fn name(self) -> &'static str {
+        match self {
+            Type::Integer => "an integer",
+            Type::Array => "an array",
+            Type::FilledArray => "an array that is not empty",
+            Type::Table => "a table",
+            Type::Text => "a string",
         }
     }
 }

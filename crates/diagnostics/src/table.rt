@@ -1,8 +1,8 @@
 //! Explains a fault of the tables, with the place of the table and the input in the plan's text.
 
 use crate::message::Message;
-use crate::plan_node::{add_input_words, input_way};
-use crate::texts::tables_words;
+use crate::plan_node::{add_input_name, path_to_input};
+use crate::texts::tables_explanation;
 use faults::Fault;
 use std::alloc::{AllocError, Global};
 use toml::Value;
@@ -25,7 +25,7 @@ pub fn explain_tables(
     {
         add_table(alloc, &mut message, name, text, table, input)?;
     }
-    message.words(tables_words(fault))?;
+    message.words(tables_explanation(fault))?;
     Ok(message)
 }
 
@@ -39,6 +39,7 @@ fn add_table(
 ) -> Result<(), AllocError> {
     match toml::table_from_str(alloc, text) {
         Ok(members) => add_input(message, name, text, &Value::Table(members), table, input),
+        Err(fault) if fault.is_memory() => Err(AllocError),
         Err(_) => Ok(()),
     }
 }
@@ -51,6 +52,6 @@ fn add_input(
     table: usize,
     input: usize,
 ) -> Result<(), AllocError> {
-    message.place_of(name, text, input_way(table, input).as_slice())?;
-    add_input_words(message, document, table, input)
+    message.place_of(name, text, path_to_input(table, input).as_slice())?;
+    add_input_name(message, document, table, input)
 }

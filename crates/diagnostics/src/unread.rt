@@ -1,7 +1,8 @@
 //! Finds the unknown keys of a plan's text.
 
 use crate::edits::is_one_edit;
-use crate::places::{Node, Places};
+use crate::places::Node;
+use crate::plan_node::version_of;
 use crate::position::{Position, Positions};
 use crate::scanner::places_of;
 use crate::shape::Shape;
@@ -20,16 +21,45 @@ pub struct UnusedKey {
 
 /// The unknown keys of a plan's text in the order of the text, without the keys inside the value of an unknown key.
 pub fn unread_keys(alloc: Global, text: &str) -> Result<Vec<UnusedKey>, AllocError> {
+    let families = keeps_families(alloc, text)?;
     let places = places_of(alloc, text)?;
-    let families = keeps_families(alloc, text);
-    let mut shapes: Vec<Shape> = Vec::new(alloc);
     let mut unread = Vec::new(alloc);
-    let mut positions = Positions::new(text.as_bytes());
-    for node in places.nodes() {
+    push_unread(alloc, &mut unread, text, places.nodes(), families)?;
+    Ok(unread)
+}
+
+fn push_unread(
+    alloc: Global,
+    unread: &mut Vec<UnusedKey>,
+    text: &str,
+    nodes: &[Node],
+    families: bool,
+) -> Result<(), AllocError> {
+    let shapes = shapes_of(alloc, nodes, families)?;
+    push_unused(unread, text, nodes, shapes.as_slice(), families)
+}
+
+// The shape of each node. A node is after the node that contains it.
+fn shapes_of(alloc: Global, nodes: &[Node], families: bool) -> Result<Vec<Shape>, AllocError> {
+    let mut shapes: Vec<Shape> = Vec::new(alloc);
+    for node in nodes {
         let within = shapes.get(node.parent).copied();
-        let shape = shape_of(node, within, families);
-        if shape == Shape::UnusedKey
-            && let Some(within) = within
+        shapes.push(shape_of(node, within, families))?;
+    }
+    Ok(shapes)
+}
+
+fn push_unused(
+    unread: &mut Vec<UnusedKey>,
+    text: &str,
+    nodes: &[Node],
+    shapes: &[Shape],
+    families: bool,
+) -> Result<(), AllocError> {
+    let mut positions = Positions::new(text.as_bytes());
+    for (index, node) in nodes.iter().enumerate() {
+        if shapes.get(index).copied() == Some(Shape::UnusedKey)
+            && let Some(within) = shapes.get(node.parent).copied()
             && within.has_keys()
             && let Some(key) = &node.key
         {
@@ -39,9 +69,8 @@ pub fn unread_keys(alloc: Global, text: &str) -> Result<Vec<UnusedKey>, AllocErr
                 near: nearest_key(key.as_str(), within, families),
             })?;
         }
-        shapes.push(shape)?;
     }
-    Ok(unread)
+    Ok(())
 }
 
 // The document itself is in no table.
@@ -76,13 +105,11 @@ fn near_of(key: &str, keys: &[&'static str]) -> Option<&'static str> {
     None
 }
 
-// Only version 3 of a plan has the keys of the family's limits.
-fn keeps_families(alloc: Global, text: &str) -> bool {
+// Only version 3 of a plan has the keys of the family's limits. A text that is no TOML has no version.
+fn keeps_families(alloc: Global, text: &str) -> Result<bool, AllocError> {
     match toml::table_from_slice(alloc, text.as_bytes()) {
-        Ok(members) => Value::Table(members)
-            .get("version")
-            .and_then(Value::as_integer)
-            == Some(3),
-        Err(_) => false,
+        Ok(members) => Ok(version_of(&Value::Table(members)) == Some(3)),
+        Err(fault) if fault.is_memory() => Err(AllocError),
+        Err(_) => Ok(false),
     }
 }
