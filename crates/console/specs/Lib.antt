@@ -1,3 +1,4 @@
+pub mod ExitStatus
 pub mod Limits
 pub mod Reading
 pub mod AtomicTarget

@@ -1,8 +1,10 @@
 //! Replaces a file of the system atomically.
 
+ghost use Rattle.std.specs.Prelude.{◌≡◌, ◌/◌, bit_and, bit_or, false, true};
+
 use crate::atomic_target::AtomicTarget;
-use std::fs::{OpenFile, OpenOptions, Permissions};
-use std::os::unix::fs::OpenOptionsExt;
+use std::fs::{Metadata, OpenFile, OpenOptions, Permissions};
+use std::os::unix::fs::{MetadataExt, OpenOptionsExt, PermissionsExt};
 use std::path::PathBuf;
 use std::rt::Files;
 use std::{fs, io};
@@ -25,7 +27,7 @@ const PRIVATE_MODE: u32 = 0o600;
 pub struct AtomicFile<'a, R: Files> {
     files: &'a R,
     path: String,
-    permissions: Option<Permissions>,
+    old: Option<Metadata>,
     beside: String,
 }
 
@@ -33,11 +35,11 @@ impl<'a, R: Files + AllocGlobal> AtomicFile<'a, R> {
     /// The place at a path. A link is followed, also one to a file that does not exist yet. It is an error if the path has something other than a file,
     /// such as a device or a folder, or if it cannot be examined, as with a link to itself.
     pub fn new(files: &'a R, path: &str) -> io::Result<AtomicFile<'a, R>> {
-        let permissions = permissions_at(files, path)?;
+        let old = file_at(files, path)?;
         Ok(AtomicFile {
             files,
             path: led_to(files, path)?.into_string(),
-            permissions,
+            old,
             beside: String::new(files.alloc()),
         })
     }
@@ -45,7 +47,7 @@ impl<'a, R: Files + AllocGlobal> AtomicFile<'a, R> {
     // Several runs may write to the same path, so an existing name is left alone.
     fn create(&mut self) -> io::Result<R::File> {
         let path = self.path.as_str();
-        let mode = if self.permissions.is_some() {
+        let mode = if self.old.is_some() {
             PRIVATE_MODE
         } else {
             NEW_MODE
@@ -83,13 +85,13 @@ impl<'a, R: Files + AllocGlobal> AtomicFile<'a, R> {
     }
 }
 
-fn permissions_at<R: Files>(files: &R, path: &str) -> io::Result<Option<Permissions>> {
+fn file_at<R: Files>(files: &R, path: &str) -> io::Result<Option<Metadata>> {
     match fs::metadata(files, path) {
         Ok(there) if !there.is_file() => Err(io::Error::new(
             io::ErrorKind::InvalidInput,
             "not a regular file",
         )),
-        Ok(there) => Ok(Some(there.permissions())),
+        Ok(there) => Ok(Some(there)),
         Err(fault) if fault.kind() == io::ErrorKind::NotFound => Ok(None),
         Err(fault) => Err(fault),
     }
@@ -124,14 +126,38 @@ fn create_new<R: Files>(files: &R, path: &str, mode: u32) -> io::Result<R::File>
     options.open(files, path)
 }
 
+/// Gives the new file the group, the owner and the permissions of the old one, so that nobody can read the new text who could not read the old one. The
+/// system lets few users give a file away, and only to some groups: the owner then changes, and a group that cannot be kept has no permissions.
+fn take_access<R: Files>(files: &R, path: &str, file: &R::File, old: &Metadata) -> io::Result<()> {
+    // Another user may have put a link in the file's place, which these calls do not follow.
+    let _ = files.lchown(path, None, Some(old.gid()));
+    let _ = files.lchown(path, Some(old.uid()), None);
+    let keeps_group = file.metadata()?.gid() == old.gid();
+    let mode = mode_after(old.mode(), keeps_group);
+    file.set_permissions(Permissions::from_mode(mode))
+}
+
+/// The mode of a file that replaces one with this mode: only the permissions of the owner, the group and the others. Without its group, the members of the
+/// old group are among the others, who thus have no more than the group had.
+fn mode_after(mode: u32, keeps_group: bool) -> u32
+    ensures kept { keeps_group ≡ true → result ≡ bit_and mode 0o777 }
+    ensures lost { keeps_group ≡ false
+        → result ≡ bit_or (bit_and mode 0o700) (bit_and (bit_and mode (mode / 8)) 0o007) }
+{
+    if keeps_group {
+        return mode & 0o777;
+    }
+    let group_as_others = mode / 8;
+    (mode & 0o700) | (mode & group_as_others & 0o007)
+}
+
 impl<R: Files + AllocGlobal> AtomicTarget for AtomicFile<'_, R> {
     type Text = R::File;
 
     fn begin(&mut self) -> io::Result<R::File> {
         let file = self.create()?;
-        // Only users who could read the old text may read the new one.
-        if let Some(permissions) = self.permissions.take()
-            && let Err(fault) = file.set_permissions(permissions)
+        if let Some(old) = self.old.take()
+            && let Err(fault) = take_access(self.files, self.beside.as_str(), &file, &old)
         {
             self.remove();
             return Err(fault);

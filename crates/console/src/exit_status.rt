@@ -1,26 +1,43 @@
-//! Lines on standard error, and the exit statuses.
+//! The exit statuses, and the lines on standard error that go with them.
 
-ghost use Rattle.std.specs.Prelude.{◌≡◌, ◌≢◌, ◌≤◌};
+ghost use Rattle.std.specs.Prelude.{◌≡◌, ◌≢◌};
 ghost use Rattle.clap.specs.Words.{kind_of};
 ghost use Rattle.clap.specs.declared.error.kind.ErrorKind.TheVariants.{DisplayHelp, DisplayVersion};
+ghost use Rattle.console.specs.declared.exit_status.ExitStatus.TheVariants.{Done, Refused, Resource};
+ghost use Rattle.console.specs.ExitStatus.{code_of};
 
 use clap::Error;
 use clap::error::ErrorKind;
 
-/// Exit status: success.
-pub const DONE: u8 = 0;
+/// How the program ends.
+#[derive(Clone, Copy, Debug, PartialEq, Eq, Drop)]
+pub enum ExitStatus {
+    /// Success.
+    Done,
+    /// An input is not valid.
+    Refused,
+    /// The command line is not valid.
+    Usage,
+    /// The system failed (I/O, memory, threads).
+    Resource,
+}
 
-/// Exit status: an input is not valid.
-pub const REFUSED: u8 = 1;
-
-/// Exit status: the command line is not valid.
-pub const USAGE: u8 = 2;
-
-/// Exit status: the system failed (I/O, memory, threads).
-pub const RESOURCE: u8 = 3;
+impl ExitStatus {
+    /// The number that the caller of the program gets, from 0 to 3.
+    pub fn code(self) -> u8
+        ensures { result ≡ code_of self }
+    {
+        match self {
+            ExitStatus::Done => 0,
+            ExitStatus::Refused => 1,
+            ExitStatus::Usage => 2,
+            ExitStatus::Resource => 3,
+        }
+    }
+}
 
 /// Prints a line to standard error, and returns the status. If the line cannot be printed, the status is the only report.
-pub fn print_error<R: Eprint>(rt: &R, line: &str, status: u8) -> u8
+pub fn print_error<R: Eprint>(rt: &R, line: &str, status: ExitStatus) -> ExitStatus
     ensures { result ≡ status }
 {
     let _ = rt.eprintln(line);
@@ -28,25 +45,24 @@ pub fn print_error<R: Eprint>(rt: &R, line: &str, status: u8) -> u8
 }
 
 /// Prints that memory ran out, and returns the status.
-pub fn no_memory<R: Eprint>(rt: &R) -> u8
-    ensures { result ≡ RESOURCE }
+pub fn no_memory<R: Eprint>(rt: &R) -> ExitStatus
+    ensures { result ≡ Resource }
 {
-    print_error(rt, "no memory", RESOURCE)
+    print_error(rt, "no memory", ExitStatus::Resource)
 }
 
 /// Prints an error of the command line, or the requested help or version, and returns the status.
-pub fn usage<R: Print + Eprint>(rt: &R, fault: &Error) -> u8
-    ensures known { result ≤ RESOURCE }
+pub fn usage<R: Print + Eprint>(rt: &R, fault: &Error) -> ExitStatus
     ensures fault { kind_of fault.now ≢ DisplayHelp
-        → kind_of fault.now ≢ DisplayVersion → result ≢ DONE }
-    ensures not_refused { result ≢ REFUSED }
+        → kind_of fault.now ≢ DisplayVersion → result ≢ Done }
+    ensures not_refused { result ≢ Refused }
 {
     if fault.kind() == ErrorKind::OutOfMemory {
         return no_memory(rt);
     }
     match fault.print(rt) {
-        Ok(()) if fault.use_stderr() => USAGE,
-        Ok(()) => DONE,
-        Err(_) => RESOURCE,
+        Ok(()) if fault.use_stderr() => ExitStatus::Usage,
+        Ok(()) => ExitStatus::Done,
+        Err(_) => ExitStatus::Resource,
     }
 }

@@ -2,7 +2,8 @@
 //!
 //! Begin with `command.rt`, the command line for `clap`; `arguments.rt` has the arguments, `names.rt` the names of their values, `texts.rt` the
 //! help after them, and `words.rt` the words that the caller gave. `sources.rt` finds texts by their names, and `files.rt` reads them.
-//! `exit_status.rt` prints error lines and has the exit statuses, and `heartbeat.rt` prints progress lines during long work.
+//! `exit_status.rt` has the exit statuses and prints error lines, `heartbeat.rt` prints progress lines during long work, and
+//! `stack.rt` takes room for the stack.
 //!
 //! `atomic_target.rt` has the contract of a place whose text is replaced atomically, and `atomic_file.rt` implements it for the system's files: it
 //! writes a new file in the same folder, syncs it to the device, and renames it.
@@ -17,14 +18,16 @@ mod files;
 mod heartbeat;
 pub mod names;
 mod sources;
+mod stack;
 mod texts;
 mod words;
 
 pub use atomic_file::AtomicFile;
 pub use atomic_target::{AtomicTarget, finish};
 pub use command::matches_of;
-pub use exit_status::{DONE, REFUSED, RESOURCE, USAGE, no_memory, print_error, usage};
+pub use exit_status::{ExitStatus, no_memory, print_error, usage};
 pub use files::{ReadFault, read_source, read_text};
 pub use heartbeat::Heartbeat;
 pub use sources::{FileSource, FileSources, Sources};
+pub use stack::grow_stack;
 pub use words::{explains, input_once, program_arguments};

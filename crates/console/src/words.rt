@@ -1,17 +1,18 @@
 //! The words of the command line.
 
-ghost use Rattle.std.specs.Prelude.{◌≡◌, ◌≤◌, IfErr, true};
+ghost use Rattle.std.specs.Prelude.{◌≡◌, IfErr, true};
+ghost use Rattle.console.specs.declared.exit_status.ExitStatus.TheVariants.{Usage};
+ghost use Rattle.console.specs.ExitStatus.{IsUnjudged};
 
-use crate::exit_status::{RESOURCE, USAGE, no_memory, print_error};
+use crate::exit_status::{ExitStatus, no_memory, print_error};
 use crate::names::{BALANCES, EXPLAIN, FILE, PLAN, STREAM};
 use clap::ArgMatches;
 use std::rt::Env;
 use std::{env, io};
 
 /// The words of the command line. If they cannot be read, an error line is printed, and its status is returned.
-pub fn program_arguments<R: Env + Eprint + AllocGlobal>(rt: &R) -> Result<Vec<String>, u8>
-    ensures known { IfErr result (λ status. status ≤ RESOURCE) }
-    ensures failed { IfErr result (λ status. USAGE ≤ status) }
+pub fn program_arguments<R: Env + Eprint + AllocGlobal>(rt: &R) -> Result<Vec<String>, ExitStatus>
+    ensures { IfErr result IsUnjudged }
 {
     match env::args(rt) {
         Ok(words) => match words.collect(rt.alloc()) {
@@ -19,7 +20,10 @@ pub fn program_arguments<R: Env + Eprint + AllocGlobal>(rt: &R) -> Result<Vec<St
             Err(_) => Err(no_memory(rt)),
         },
         Err(fault) if fault.kind() == io::ErrorKind::OutOfMemory => Err(no_memory(rt)),
-        Err(_) => Err(print_error(rt, "error: an argument is not valid UTF-8", USAGE)),
+        Err(_) => {
+            let line = "error: an argument is not valid UTF-8";
+            Err(print_error(rt, line, ExitStatus::Usage))
+        }
     }
 }
 
@@ -31,12 +35,12 @@ pub fn explains(matches: &ArgMatches<'_>, is_watched: bool) -> bool
 }
 
 /// Prints an error and returns its status if standard input is named more than once, since it can be read only once.
-pub fn input_once<R: Eprint>(rt: &R, matches: &ArgMatches<'_>) -> Result<(), u8>
-    ensures { IfErr result (λ status. status ≡ USAGE) }
+pub fn input_once<R: Eprint>(rt: &R, matches: &ArgMatches<'_>) -> Result<(), ExitStatus>
+    ensures { IfErr result (λ status. status ≡ Usage) }
 {
     if times_of_input(matches) > 1 {
         let line = "error: standard input (`-`) can be given only once";
-        return Err(print_error(rt, line, USAGE));
+        return Err(print_error(rt, line, ExitStatus::Usage));
     }
     Ok(())
 }
