@@ -1,28 +1,31 @@
 //! The command line of the program that has only the command `value`.
 
-ghost use Rattle.std.specs.Prelude.{◌≡◌, ◌≤◌};
+ghost use Rattle.std.specs.Prelude.{◌≡◌};
+ghost use Rattle.console.specs.declared.exit_status.ExitStatus.TheVariants.{Done, Refused};
 ghost use Rattle.value_command.specs.Ends.{IsDone, IsRefused, NamesValue, ValueIsDone, ValueIsRefused};
 
 use crate::value::value_of;
 use clap::{ArgMatches, Error};
 use console::names::VALUE;
 use console::{
-    DONE, REFUSED, RESOURCE, Sources, USAGE, explains, matches_of, print_error, program_arguments,
-    usage,
+    ExitStatus, Sources, explains, grow_stack, matches_of, no_memory, print_error,
+    program_arguments, usage,
 };
 use std::rt::{Env, Files};
 
 /// Runs the command line over these texts, and returns the exit status. Help and the version are those of the whole program. A command other than
 /// `value` is a usage error.
-pub fn status<R, S: Sources>(rt: &R, sources: &S, is_watched: bool) -> u8
+pub fn status<R, S: Sources>(rt: &R, sources: &S, is_watched: bool) -> ExitStatus
 where
     R: Env + Files + Print + Eprint + AllocGlobal,
-    ensures known { result ≤ RESOURCE }
 {
     let words = match program_arguments(rt) {
         Ok(words) => words,
         Err(status) => return status,
     };
+    if grow_stack(rt.alloc(), words.len()).is_err() {
+        return no_memory(rt);
+    }
     // This program has no `run`, so it needs no limit on workers.
     let matched = matches_of(rt.alloc(), words.as_slice(), usize::MAX);
     matched_status(rt, sources, &matched, is_watched)
@@ -35,12 +38,11 @@ pub fn matched_status<R, S: Sources>(
     sources: &S,
     matched: &Result<ArgMatches<'_>, Error>,
     is_watched: bool,
-) -> u8
+) -> ExitStatus
 where
     R: Files + Print + Eprint + AllocGlobal,
-    ensures known { result ≤ RESOURCE }
-    ensures done { result ≡ DONE → IsDone (S.whole sources.now) matched.now }
-    ensures refused { result ≡ REFUSED → IsRefused (S.whole sources.now) matched.now result }
+    ensures done { result ≡ Done → IsDone (S.whole sources.now) matched.now }
+    ensures refused { result ≡ Refused → IsRefused (S.whole sources.now) matched.now result }
 {
     match matched {
         Ok(matches) => command(rt, sources, matches, is_watched),
@@ -48,12 +50,16 @@ where
     }
 }
 
-fn command<R, S: Sources>(rt: &R, sources: &S, matches: &ArgMatches<'_>, is_watched: bool) -> u8
+fn command<R, S: Sources>(
+    rt: &R,
+    sources: &S,
+    matches: &ArgMatches<'_>,
+    is_watched: bool,
+) -> ExitStatus
 where
     R: Files + Print + Eprint + AllocGlobal,
-    ensures known { result ≤ RESOURCE }
-    ensures done { result ≡ DONE → NamesValue matches.now (ValueIsDone (S.whole sources.now)) }
-    ensures refused { result ≡ REFUSED → NamesValue matches.now (λ words.
+    ensures done { result ≡ Done → NamesValue matches.now (ValueIsDone (S.whole sources.now)) }
+    ensures refused { result ≡ Refused → NamesValue matches.now (λ words.
         ValueIsRefused (S.whole sources.now) words result) }
 {
     match matches.subcommand_matches(VALUE) {
@@ -61,7 +67,7 @@ where
         None => print_error(
             rt,
             "error: this program has only the command `value`",
-            USAGE,
+            ExitStatus::Usage,
         ),
     }
 }

@@ -1,9 +1,14 @@
 //! Explanations of the errors of `value`.
 
-use crate::explanation::{About, print_message, resource_message};
+use crate::explanation::{About, print_message};
 use console::names::{ASSIGNMENT, PLAN};
-use diagnostics::{Message, argument_words, explain_literal, explain_plan, explain_tables};
+use diagnostics::{
+    Message, argument_given_twice, argument_of_unknown_name, argument_without_equals, explain,
+    explain_argument, explain_literal, explain_plan, explain_tables, memory, missing_value,
+    write_explanation,
+};
 use evaluation::{ArgumentFault, ValueStop};
+use faults::WriteCause;
 use std::alloc::{AllocError, Global};
 
 /// Prints the explanation of an error of `value`, if there is one and the caller wants it.
@@ -29,9 +34,9 @@ pub fn value_message(
         ValueStop::Plan(fault) => explain_plan(alloc, about.word(PLAN), about.plan, fault),
         ValueStop::Argument { number, fault } => argument_message(alloc, about, *number, fault),
         ValueStop::Tables(fault) => explain_tables(alloc, about.word(PLAN), about.plan, fault),
-        ValueStop::Missing(_) => resource_message(alloc, "missing "),
-        ValueStop::Write { .. } => resource_message(alloc, "write fault at "),
-        ValueStop::NoMemory => resource_message(alloc, "no memory"),
+        ValueStop::Missing(_) => explain(alloc, missing_value()),
+        ValueStop::Write { .. } => explain(alloc, write_explanation(WriteCause::Device)),
+        ValueStop::NoMemory => explain(alloc, memory()),
     }
 }
 
@@ -42,11 +47,10 @@ fn argument_message(
     fault: &ArgumentFault,
 ) -> Result<Message, AllocError> {
     let argument = about.word_at(ASSIGNMENT, number);
-    if let ArgumentFault::Literal(cell) = fault {
-        return explain_literal(alloc, argument, cell);
+    match fault {
+        ArgumentFault::NoEquals => explain_argument(alloc, argument, argument_without_equals()),
+        ArgumentFault::UnknownName => explain_argument(alloc, argument, argument_of_unknown_name()),
+        ArgumentFault::RepeatedName => explain_argument(alloc, argument, argument_given_twice()),
+        ArgumentFault::Literal(cell) => explain_literal(alloc, argument, cell),
     }
-    let mut page = Message::new(alloc);
-    page.line(&[argument])?;
-    page.words(argument_words(fault.number()))?;
-    Ok(page)
 }

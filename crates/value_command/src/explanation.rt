@@ -1,8 +1,8 @@
 //! Explanations after the line of an error.
 
 use clap::ArgMatches;
-use diagnostics::Message;
-use std::alloc::{AllocError, Global};
+use diagnostics::{Explanation, Message, explain_unusable_file};
+use std::alloc::AllocError;
 use std::io;
 
 /// What an explanation needs of a command over a plan.
@@ -47,21 +47,14 @@ pub fn print_message<R: Eprint>(rt: &R, page: Result<Message, AllocError>) {
 /// Explains why a file of this name cannot be read or written, with the system's reason.
 pub fn explain_unreadable<R: Eprint + AllocGlobal>(
     rt: &R,
-    line: &str,
     name: &str,
     fault: &io::Error,
+    words: Explanation,
 ) {
-    let mut page = Message::new(rt.alloc());
-    if let Ok(reason) = format!(in rt.alloc(); "{fault}")
-        && page.resource(line, name, reason.as_str()).is_ok()
-    {
-        let _ = rt.eprint(page.as_str());
+    if let Ok(reason) = format!(in rt.alloc(); "{fault}") {
+        print_message(
+            rt,
+            explain_unusable_file(rt.alloc(), name, reason.as_str(), words),
+        );
     }
-}
-
-/// Explains a missing value or a failure of the system. The beginning of the error line decides.
-pub fn resource_message(alloc: Global, line: &str) -> Result<Message, AllocError> {
-    let mut page = Message::new(alloc);
-    page.resource(line, "", "")?;
-    Ok(page)
 }

@@ -1,12 +1,13 @@
 //! Reads the plan that the command line names.
 
-ghost use Rattle.std.specs.Prelude.{◌≤◌, IfErr, IfOk};
+ghost use Rattle.std.specs.Prelude.{IfErr, IfOk};
+ghost use Rattle.console.specs.ExitStatus.{IsUnjudged};
 ghost use Rattle.value_command.specs.Texts.{IsNamedPlan};
 
 use crate::source_text::read_or_report;
 use clap::ArgMatches;
 use console::names::PLAN;
-use console::{RESOURCE, Sources, USAGE};
+use console::{ExitStatus, Sources};
 use dtable::PLAN_LIMIT_BYTES;
 
 /// Reads the plan that the command line names. If it cannot be read, an error line is printed, and its status is returned.
@@ -15,16 +16,15 @@ pub fn plan_of<R: Eprint + AllocGlobal, S: Sources>(
     sources: &S,
     matches: &ArgMatches<'_>,
     explains: bool,
-) -> Result<Vec<u8>, u8>
+) -> Result<Vec<u8>, ExitStatus>
     ensures named { IfOk result (λ plan. IsNamedPlan (S.whole sources.now) matches.now plan.items) }
-    ensures known { IfErr result (λ status. status ≤ RESOURCE) }
-    ensures failed { IfErr result (λ status. USAGE ≤ status) }
+    ensures failed { IfErr result IsUnjudged }
 {
     match matches.get_str(PLAN) {
         Some(name) => {
             let line = "cannot read plan";
             read_or_report(rt, sources, name, PLAN_LIMIT_BYTES, line, explains)
         }
-        None => Err(USAGE),
+        None => Err(ExitStatus::Usage),
     }
 }

@@ -1,13 +1,16 @@
 //! The file for a command's results, which they replace atomically.
 
-ghost use Rattle.std.specs.Prelude.{◌≡◌, ◌≢◌, ◌≤◌, ◌⊎◌, IfErr, IsOk, MatchResult, OnErr};
+ghost use Rattle.std.specs.Prelude.{◌≡◌, ◌≢◌, ◌⊎◌, IfErr, IsOk, MatchResult, OnErr};
 ghost use Rattle.std.specs.Io.KnownBytes.{Keeps};
 ghost use Rattle.console.specs.AtomicTarget.{Becomes};
+ghost use Rattle.console.specs.declared.exit_status.ExitStatus.TheVariants.{Done, Resource};
+ghost use Rattle.console.specs.ExitStatus.{code_of};
 
 use crate::error_line::report_error;
 use crate::explanation::{About, explain_unreadable};
 use console::names::{OUTPUT, STREAM};
-use console::{AtomicFile, AtomicTarget, DONE, RESOURCE, finish, no_memory, print_error};
+use console::{AtomicFile, AtomicTarget, ExitStatus, finish, no_memory, print_error};
+use diagnostics::unwritable_output;
 use faults::Refusal;
 use std::io;
 use std::rt::Files;
@@ -20,8 +23,8 @@ const CANNOT_WRITE: &str = "cannot write output";
 pub fn output_of<'a, R: Files + Eprint + AllocGlobal>(
     rt: &'a R,
     about: &About,
-) -> Result<Option<AtomicFile<'a, R>>, u8>
-    ensures { IfErr result (λ status. status ≡ RESOURCE) }
+) -> Result<Option<AtomicFile<'a, R>>, ExitStatus>
+    ensures { IfErr result (λ status. status ≡ Resource) }
 {
     match about.words.get_str(OUTPUT) {
         None | Some(STREAM) => Ok(None),
@@ -40,18 +43,17 @@ pub fn commit_output<R: Eprint + AllocGlobal, P: AtomicTarget, S: Refusal>(
     place: &mut P,
     text: P::Text,
     answer: &Result<(), S>,
-) -> u8
-    ensures known { result ≤ RESOURCE }
-    ensures status { MatchResult answer.now (λ _. (result ≡ DONE) ⊎ (result ≡ RESOURCE))
-        (λ stop. result ≡ S.status stop) }
-    ensures refused { OnErr answer.now (result ≢ DONE) }
-    ensures put { result ≡ DONE
+) -> ExitStatus
+    ensures status { MatchResult answer.now (λ _. (result ≡ Done) ⊎ (result ≡ Resource))
+        (λ stop. code_of result ≡ S.status stop) }
+    ensures refused { OnErr answer.now (result ≢ Done) }
+    ensures put { result ≡ Done
         → Becomes (P.current place.old) (P.current place.new) (P.Text.contents text) }
-    ensures kept { result ≢ DONE → Keeps (P.current place.old) (P.current place.new) }
+    ensures kept { result ≢ Done → Keeps (P.current place.old) (P.current place.new) }
 {
     match answer {
         Ok(()) => match finish(place, text, true) {
-            Ok(()) => DONE,
+            Ok(()) => ExitStatus::Done,
             Err(fault) => report_unwritable(rt, about, &fault),
         },
         Err(stop) => {
@@ -62,16 +64,20 @@ pub fn commit_output<R: Eprint + AllocGlobal, P: AtomicTarget, S: Refusal>(
 }
 
 /// Prints the error that the file for the results cannot be written, and returns its status.
-pub fn report_unwritable<R: Eprint + AllocGlobal>(rt: &R, about: &About, fault: &io::Error) -> u8
-    ensures { result ≡ RESOURCE }
+pub fn report_unwritable<R: Eprint + AllocGlobal>(
+    rt: &R,
+    about: &About,
+    fault: &io::Error,
+) -> ExitStatus
+    ensures { result ≡ Resource }
 {
     if fault.kind() == io::ErrorKind::OutOfMemory {
         return no_memory(rt);
     }
-    let status = print_error(rt, CANNOT_WRITE, RESOURCE);
+    let status = print_error(rt, CANNOT_WRITE, ExitStatus::Resource);
     if about.explains {
         let path = about.word(OUTPUT);
-        explain_unreadable(rt, CANNOT_WRITE, path, fault);
+        explain_unreadable(rt, path, fault, unwritable_output());
     }
     status
 }

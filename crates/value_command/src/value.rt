@@ -1,7 +1,8 @@
 //! The command `value`: reads the plan, and writes the outputs of its tables.
 
-ghost use Rattle.std.specs.Prelude.{◌≡◌, ◌≢◌, ◌≤◌};
+ghost use Rattle.std.specs.Prelude.{◌≡◌, ◌≢◌};
 ghost use Rattle.std.specs.Io.KnownBytes.{Keeps};
+ghost use Rattle.console.specs.declared.exit_status.ExitStatus.TheVariants.{Done, Refused};
 ghost use Rattle.evaluation.specs.Arguments.{argument_texts};
 ghost use Rattle.evaluation.specs.Stop.{IsReason};
 ghost use Rattle.evaluation.specs.ValueText.{IsValueText};
@@ -15,7 +16,7 @@ use crate::files::plan_of;
 use crate::output::{commit_output, output_of, report_unwritable};
 use clap::ArgMatches;
 use console::names::ASSIGNMENT;
-use console::{AtomicTarget, DONE, REFUSED, RESOURCE, Sources};
+use console::{AtomicTarget, ExitStatus, Sources};
 use evaluation::do_value;
 use fixpoint::Out;
 use std::io;
@@ -27,10 +28,9 @@ pub fn value_of<R: Files + Print + Eprint + AllocGlobal, S: Sources>(
     sources: &S,
     matches: &ArgMatches<'_>,
     explains: bool,
-) -> u8
-    ensures known { result ≤ RESOURCE }
-    ensures done { result ≡ DONE → ValueIsDone (S.whole sources.now) matches.now }
-    ensures refused { result ≡ REFUSED → ValueIsRefused (S.whole sources.now) matches.now result }
+) -> ExitStatus
+    ensures done { result ≡ Done → ValueIsDone (S.whole sources.now) matches.now }
+    ensures refused { result ≡ Refused → ValueIsRefused (S.whole sources.now) matches.now result }
 {
     let plan = match plan_of(rt, sources, matches, explains) {
         Ok(plan) => plan,
@@ -45,11 +45,10 @@ fn value_plan<R: Files + Print + Eprint + AllocGlobal>(
     matches: &ArgMatches<'_>,
     plan: &[u8],
     explains: bool,
-) -> u8
-    ensures known { result ≤ RESOURCE }
-    ensures done { result ≡ DONE
+) -> ExitStatus
+    ensures done { result ≡ Done
         → HasText (IsValueText plan.now (words_at matches.now ASSIGNMENT.now)) }
-    ensures refused { result ≢ DONE → IsStatusOfRefusal
+    ensures refused { result ≢ Done → IsStatusOfRefusal
         (IsReason plan.now (words_at matches.now ASSIGNMENT.now)) result }
 {
     let assignments = matches.get_strs(ASSIGNMENT).unwrap_or(&[]);
@@ -71,10 +70,9 @@ fn value<R: Print + Eprint + AllocGlobal>(
     about: &About,
     plan: &[u8],
     assignments: &[&str],
-) -> u8
-    ensures known { result ≤ RESOURCE }
-    ensures done { result ≡ DONE → HasText (IsValueText plan.now (argument_texts assignments.now)) }
-    ensures refused { result ≢ DONE → IsStatusOfRefusal
+) -> ExitStatus
+    ensures done { result ≡ Done → HasText (IsValueText plan.now (argument_texts assignments.now)) }
+    ensures refused { result ≢ Done → IsStatusOfRefusal
         (IsReason plan.now (argument_texts assignments.now)) result }
 {
     let mut out = Out::new(io::writer(rt));
@@ -92,13 +90,12 @@ fn value_into<R: Eprint + AllocGlobal, P: AtomicTarget>(
     plan: &[u8],
     assignments: &[&str],
     place: &mut P,
-) -> u8
-    ensures known { result ≤ RESOURCE }
-    ensures done { result ≡ DONE
+) -> ExitStatus
+    ensures done { result ≡ Done
         → PutsText (IsValueText plan.now (argument_texts assignments.now))
         (P.current place.old) (P.current place.new) }
-    ensures kept { result ≢ DONE → Keeps (P.current place.old) (P.current place.new) }
-    ensures refused { result ≢ DONE → IsStatusOfRefusal
+    ensures kept { result ≢ Done → Keeps (P.current place.old) (P.current place.new) }
+    ensures refused { result ≢ Done → IsStatusOfRefusal
         (IsReason plan.now (argument_texts assignments.now)) result }
 {
     let text = match place.begin() {

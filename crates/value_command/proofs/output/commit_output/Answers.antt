@@ -1,4 +1,4 @@
-use Rattle.std.proofs.Common.{arith, inl, inr, refl}
+use Rattle.std.proofs.Common.{inl, inr, refl}
 use Rattle.value_command.proofs.output.commit_output.Goals as goal
 
 pub returns-in-Ok-finish-clause-status : goal.returns-in-Ok-finish-clause-status
@@ -17,7 +17,7 @@ pub returns-in-Err-finish-clause-refused : goal.returns-in-Err-finish-clause-ref
 returns-in-Err-finish-clause-refused g c = rw c.in-Ok.is tt
 
 pub returns-in-Err-finish-clause-put : goal.returns-in-Err-finish-clause-put
-returns-in-Err-finish-clause-put g c = λ is_done. absurd (omega (arith, is_done, c.report_unwritable.ensures))
+returns-in-Err-finish-clause-put g c = λ is_done. absurd (cc (is_done, c.report_unwritable.ensures))
 
 pub returns-in-Err-clause-status : goal.returns-in-Err-clause-status
 returns-in-Err-clause-status g c = rw c.in-Err.is c.report_error.ensures.status
