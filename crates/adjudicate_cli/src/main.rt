@@ -10,5 +10,6 @@ use std::process::ExitCode;
 fn main(rt: HostRuntime) -> io::Result<ExitCode> {
     let is_watched = rt.stderr().is_terminal();
     let sources = FileSources::new(&rt);
-    Ok(ExitCode::from(status(&rt, &sources, is_watched)))
+    let status = status(&rt, &sources, is_watched);
+    Ok(ExitCode::from(status.code()))
 }

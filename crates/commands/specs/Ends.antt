@@ -1,8 +1,11 @@
 -- The meaning of the exit statuses of the commands.
-use Rattle.std.specs.Prelude.{◌⊎◌, ℕ, List, Option, Result, Ok, Err}
+use Rattle.std.specs.Prelude.{◌≡◌, ◌⊎◌, ℕ, List, Option, Result, Ok, Err}
 use Rattle.clap.specs.declared.error.Error.{Error}
 use Rattle.clap.specs.declared.parser.matches.ArgMatches.{ArgMatches}
+use Rattle.console.specs.declared.exit_status.ExitStatus.{ExitStatus}
+use Rattle.console.specs.declared.exit_status.ExitStatus.TheVariants.{Refused}
 use Rattle.console.specs.declared.names.TheConstants.{CHECK, RUN, VALUE}
+use Rattle.console.specs.ExitStatus.{IsUnjudged}
 use Rattle.value_command.specs.Ends.{Ends, HasText, IsHelp, IsStatusOf, ValueIsDone, ValueIsRefused}
 use Rattle.value_command.specs.Texts.{IsNamedPlan, Whole}
 use Rattle.adjudicate.specs.declared.check.report.Findings.{Findings}
@@ -16,10 +19,10 @@ use Rattle.commands.specs.Texts.{HasNamedTexts, texts_at}
 use Rattle.commands.specs.Words.{IsCutoff, IsStrict, IsFindings, IsWorkers}
 
 -- some error has this reason, and this is its exit status
-abbrev pub IsStatusOfRefusal : (Stop → Type 0) → ℕ → Type 0
+abbrev pub IsStatusOfRefusal : (Stop → Type 0) → ExitStatus → Type 0
 IsStatusOfRefusal IsReason status = IsStatusOf status_of IsReason status
 
--- `check` can exit with 0: the named plan has an output text, with the gaps and overlaps that the option selects
+-- `check` can end with `Done`: the named plan has an output text, with the gaps and overlaps that the option selects
 pub record CheckIsDone (whole : Whole) (words : ArgMatches) : Type 0 where
   pub plan : List ℕ
   pub named : IsNamedPlan whole words plan
@@ -28,13 +31,13 @@ pub record CheckIsDone (whole : Whole) (words : ArgMatches) : Type 0 where
   pub has_text : HasText (IsReportedText findings plan)
 
 -- this is the exit status of an error of the named plan
-pub record PlanIsRefused (whole : Whole) (words : ArgMatches) (status : ℕ) : Type 0 where
+pub record PlanIsRefused (whole : Whole) (words : ArgMatches) (status : ExitStatus) : Type 0 where
   pub plan : List ℕ
   pub named : IsNamedPlan whole words plan
   pub refused : IsStatusOfRefusal (IsPlanReason plan) status
 
--- `check` can exit with this status: it is that of an error of the named plan, or unknown keys are errors
-abbrev pub CheckIsRefused : Whole → ArgMatches → ℕ → Type 0
+-- `check` can end with this status: it is that of an error of the named plan, or unknown keys are errors
+abbrev pub CheckIsRefused : Whole → ArgMatches → ExitStatus → Type 0
 CheckIsRefused whole words status = PlanIsRefused whole words status ⊎ IsStrict words
 
 -- these texts have a remittance at the cutoff of the command line
@@ -44,46 +47,54 @@ pub record HasRemittance (words : ArgMatches) (texts : Texts) : Type 0 where
   pub has_text : HasText (IsRemittance (texts_at texts cutoff))
 
 -- this is the exit status of an error of a run of these texts, with the cutoff and the workers of the command line
-pub record IsRefusedRun (words : ArgMatches) (texts : Texts) (status : ℕ) : Type 0 where
+pub record IsRefusedRun (words : ArgMatches) (texts : Texts) (status : ExitStatus) : Type 0 where
   pub cutoff : Option ℕ
   pub asked : IsCutoff words cutoff
   pub workers : ℕ
   pub engaged : IsWorkers words workers
   pub refused : IsStatusOfRefusal (IsRunReason (texts_at texts cutoff) workers) status
 
--- `run` can exit with 0: the named texts have a remittance
+-- the status where unknown keys are searched for: there is one, or memory ran out
+abbrev pub IsUnusedStatus : ExitStatus → Type 0
+IsUnusedStatus status = IsUnjudged status ⊎ (status ≡ Refused)
+
+-- the status of a run that has not read all of its texts: no input was judged, or unknown keys are errors
+abbrev pub IsUnreadStatus : ArgMatches → ExitStatus → Type 0
+IsUnreadStatus words status = IsUnjudged status ⊎ ((status ≡ Refused) × IsStrict words)
+
+-- `run` can end with `Done`: the named texts have a remittance
 pub record RunIsDone (whole : Whole) (words : ArgMatches) : Type 0 where
   pub texts : Texts
   pub named : HasNamedTexts whole words texts
   pub has_remittance : HasRemittance words texts
 
 -- this is the exit status of an error of a run of the named texts
-pub record TextsAreRefused (whole : Whole) (words : ArgMatches) (status : ℕ) : Type 0 where
+pub record TextsAreRefused (whole : Whole) (words : ArgMatches) (status : ExitStatus) : Type 0 where
   pub texts : Texts
   pub named : HasNamedTexts whole words texts
   pub refused : IsRefusedRun words texts status
 
--- `run` can exit with this status: it is that of an error of a run of the named texts, or unknown keys are errors
-abbrev pub RunIsRefused : Whole → ArgMatches → ℕ → Type 0
+-- `run` can end with this status: it is that of an error of a run of the named texts, or unknown keys are errors
+abbrev pub RunIsRefused : Whole → ArgMatches → ExitStatus → Type 0
 RunIsRefused whole words status = TextsAreRefused whole words status ⊎ IsStrict words
 
--- the named command can exit with 0
+-- the named command can end with `Done`
 abbrev pub CommandIsDone : Whole → ArgMatches → Type 0
 CommandIsDone whole matches =
     Ends matches VALUE.now (ValueIsDone whole) ⊎ (Ends matches CHECK.now (CheckIsDone whole) ⊎ Ends matches RUN.now (RunIsDone whole))
 
--- the named command can exit with this status of an error
-abbrev pub CommandIsRefused : Whole → ArgMatches → ℕ → Type 0
+-- the named command can end with this status of an error
+abbrev pub CommandIsRefused : Whole → ArgMatches → ExitStatus → Type 0
 CommandIsRefused whole matches status =
     Ends matches VALUE.now (λ words. ValueIsRefused whole words status)
     ⊎ (Ends matches CHECK.now (λ words. CheckIsRefused whole words status) ⊎ Ends matches RUN.now (λ words. RunIsRefused whole words status))
 
--- the command line names a command that can exit with 0, or it asks for help or the version
+-- the command line names a command that can end with `Done`, or it asks for help or the version
 abbrev pub IsDone : Whole → Result ArgMatches Error → Type 0
 IsDone whole (Ok matches) = CommandIsDone whole matches
 IsDone whole (Err fault) = IsHelp fault
 
--- the command line names a command that can exit with this status of an error
-abbrev pub IsRefused : Whole → Result ArgMatches Error → ℕ → Type 0
+-- the command line names a command that can end with this status of an error
+abbrev pub IsRefused : Whole → Result ArgMatches Error → ExitStatus → Type 0
 IsRefused whole (Ok matches) status = CommandIsRefused whole matches status
 IsRefused whole (Err fault) status = ⊥

@@ -1,6 +1,7 @@
 //! The command `check`: reads the plan, and writes its gaps and overlaps.
 
-ghost use Rattle.std.specs.Prelude.{◌≡◌, ◌≢◌, ◌≤◌};
+ghost use Rattle.std.specs.Prelude.{◌≡◌, ◌≢◌};
+ghost use Rattle.console.specs.declared.exit_status.ExitStatus.TheVariants.{Done, Refused};
 ghost use Rattle.std.specs.Io.KnownBytes.{Keeps};
 ghost use Rattle.adjudicate.specs.Stop.{IsPlanReason};
 ghost use Rattle.adjudicate.specs.Findings.{IsReportedText};
@@ -8,11 +9,11 @@ ghost use Rattle.value_command.specs.Ends.{HasText, PutsText};
 ghost use Rattle.commands.specs.Ends.{CheckIsDone, CheckIsRefused, IsStatusOfRefusal};
 
 use crate::explaining::{AboutFiles, explain_refusal};
-use crate::strict::unused_status;
+use crate::strict::refuse_unused;
 use crate::words::{findings_of, is_strict};
 use adjudicate::{Findings, do_findings_check};
 use clap::ArgMatches;
-use console::{AtomicTarget, DONE, REFUSED, RESOURCE, Sources};
+use console::{AtomicTarget, ExitStatus, Sources};
 use fixpoint::Out;
 use std::io;
 use std::rt::Files;
@@ -24,10 +25,9 @@ pub fn check_of<R: Files + Print + Eprint + AllocGlobal, S: Sources>(
     sources: &S,
     matches: &ArgMatches<'_>,
     explains: bool,
-) -> u8
-    ensures known { result ≤ RESOURCE }
-    ensures done { result ≡ DONE → CheckIsDone (S.whole sources.now) matches.now }
-    ensures refused { result ≡ REFUSED → CheckIsRefused (S.whole sources.now) matches.now result }
+) -> ExitStatus
+    ensures done { result ≡ Done → CheckIsDone (S.whole sources.now) matches.now }
+    ensures refused { result ≡ Refused → CheckIsRefused (S.whole sources.now) matches.now result }
 {
     let plan = match plan_of(rt, sources, matches, explains) {
         Ok(plan) => plan,
@@ -35,11 +35,24 @@ pub fn check_of<R: Files + Print + Eprint + AllocGlobal, S: Sources>(
     };
     let findings = findings_of(matches);
     let status = check_plan(rt, matches, plan.as_slice(), findings, explains);
-    // Unknown keys are reported for an invalid plan, too, since they may be the reason.
-    if status <= REFUSED && is_strict(matches) {
-        return status.max(unused_status(rt, plan.as_slice()));
+    if is_strict(matches) {
+        return strict_status(rt, plan.as_slice(), status);
     }
     status
+}
+
+/// The status under `--strict` of a check that has this status without it. Unknown keys are reported for an invalid plan, too, since they may be the
+/// reason.
+fn strict_status<R: Eprint + AllocGlobal>(rt: &R, plan: &[u8], status: ExitStatus) -> ExitStatus
+    ensures { result ≡ Done → status ≡ Done }
+{
+    if status == ExitStatus::Usage || status == ExitStatus::Resource {
+        return status;
+    }
+    match refuse_unused(rt, plan) {
+        Ok(()) => status,
+        Err(unused) => unused,
+    }
 }
 
 /// Writes to the file of `--output` if there is one, and otherwise to standard output.
@@ -49,10 +62,9 @@ fn check_plan<R: Files + Print + Eprint + AllocGlobal>(
     plan: &[u8],
     findings: Findings,
     explains: bool,
-) -> u8
-    ensures known { result ≤ RESOURCE }
-    ensures done { result ≡ DONE → HasText (IsReportedText findings plan.now) }
-    ensures refused { result ≢ DONE → IsStatusOfRefusal (IsPlanReason plan.now) result }
+) -> ExitStatus
+    ensures done { result ≡ Done → HasText (IsReportedText findings plan.now) }
+    ensures refused { result ≢ Done → IsStatusOfRefusal (IsPlanReason plan.now) result }
 {
     let about = About {
         explains,
@@ -72,10 +84,9 @@ fn check<R: Print + Eprint + AllocGlobal>(
     about: &About,
     plan: &[u8],
     findings: Findings,
-) -> u8
-    ensures known { result ≤ RESOURCE }
-    ensures done { result ≡ DONE → HasText (IsReportedText findings plan.now) }
-    ensures refused { result ≢ DONE → IsStatusOfRefusal (IsPlanReason plan.now) result }
+) -> ExitStatus
+    ensures done { result ≡ Done → HasText (IsReportedText findings plan.now) }
+    ensures refused { result ≢ Done → IsStatusOfRefusal (IsPlanReason plan.now) result }
 {
     let mut out = Out::new(io::writer(rt));
     let answer = do_findings_check(rt.alloc(), plan, findings, &mut out);
@@ -92,12 +103,11 @@ fn check_into<R: Eprint + AllocGlobal, P: AtomicTarget>(
     plan: &[u8],
     findings: Findings,
     place: &mut P,
-) -> u8
-    ensures known { result ≤ RESOURCE }
-    ensures done { result ≡ DONE
+) -> ExitStatus
+    ensures done { result ≡ Done
         → PutsText (IsReportedText findings plan.now) (P.current place.old) (P.current place.new) }
-    ensures kept { result ≢ DONE → Keeps (P.current place.old) (P.current place.new) }
-    ensures refused { result ≢ DONE → IsStatusOfRefusal (IsPlanReason plan.now) result }
+    ensures kept { result ≢ Done → Keeps (P.current place.old) (P.current place.new) }
+    ensures refused { result ≢ Done → IsStatusOfRefusal (IsPlanReason plan.now) result }
 {
     let text = match place.begin() {
         Ok(text) => text,

@@ -1,6 +1,7 @@
 //! Runs one command, from the words of the command line to the exit status.
 
-ghost use Rattle.std.specs.Prelude.{◌≡◌, ◌≤◌};
+ghost use Rattle.std.specs.Prelude.{◌≡◌};
+ghost use Rattle.console.specs.declared.exit_status.ExitStatus.TheVariants.{Done, Refused};
 ghost use Rattle.commands.specs.Ends.{CommandIsDone, CommandIsRefused, IsDone, IsRefused};
 
 use crate::check::check_of;
@@ -9,7 +10,7 @@ use adjudicate::WORKERS_LIMIT;
 use clap::{ArgMatches, Error};
 use console::names::{CHECK, RUN, VALUE};
 use console::{
-    DONE, REFUSED, RESOURCE, Sources, USAGE, explains, matches_of, program_arguments, usage,
+    ExitStatus, Sources, explains, grow_stack, matches_of, no_memory, program_arguments, usage,
 };
 use std::rt::{Env, Files};
 use std::sync::Wait;
@@ -19,16 +20,18 @@ use value_command::value_of;
 
 /// Runs the command line over these texts, and returns the exit status. `is_watched` says that standard error is a terminal: then errors are
 /// explained, and a long run prints progress lines.
-pub fn status<R, S: Sources>(rt: &R, sources: &S, is_watched: bool) -> u8
+pub fn status<R, S: Sources>(rt: &R, sources: &S, is_watched: bool) -> ExitStatus
 where
     R: Env + Files + Print + Eprint + AllocGlobal,
     R: Clock + Threads + Wait + Clone + Drop + Send + Sync + 'static,
-    ensures known { result ≤ RESOURCE }
 {
     let words = match program_arguments(rt) {
         Ok(words) => words,
         Err(status) => return status,
     };
+    if grow_stack(rt.alloc(), words.len()).is_err() {
+        return no_memory(rt);
+    }
     let matched = matches_of(rt.alloc(), words.as_slice(), WORKERS_LIMIT);
     matched_status(rt, sources, &matched, is_watched)
 }
@@ -40,13 +43,12 @@ pub fn matched_status<R, S: Sources>(
     sources: &S,
     matched: &Result<ArgMatches<'_>, Error>,
     is_watched: bool,
-) -> u8
+) -> ExitStatus
 where
     R: Files + Print + Eprint + AllocGlobal,
     R: Clock + Threads + Wait + Clone + Drop + Send + Sync + 'static,
-    ensures known { result ≤ RESOURCE }
-    ensures done { result ≡ DONE → IsDone (S.whole sources.now) matched.now }
-    ensures refused { result ≡ REFUSED → IsRefused (S.whole sources.now) matched.now result }
+    ensures done { result ≡ Done → IsDone (S.whole sources.now) matched.now }
+    ensures refused { result ≡ Refused → IsRefused (S.whole sources.now) matched.now result }
 {
     match matched {
         Ok(matches) => command(rt, sources, matches, is_watched),
@@ -55,13 +57,17 @@ where
 }
 
 /// `clap` accepts no command but these three.
-fn command<R, S: Sources>(rt: &R, sources: &S, matches: &ArgMatches<'_>, is_watched: bool) -> u8
+fn command<R, S: Sources>(
+    rt: &R,
+    sources: &S,
+    matches: &ArgMatches<'_>,
+    is_watched: bool,
+) -> ExitStatus
 where
     R: Files + Print + Eprint + AllocGlobal,
     R: Clock + Threads + Wait + Clone + Drop + Send + Sync + 'static,
-    ensures known { result ≤ RESOURCE }
-    ensures done { result ≡ DONE → CommandIsDone (S.whole sources.now) matches.now }
-    ensures refused { result ≡ REFUSED → CommandIsRefused (S.whole sources.now) matches.now result }
+    ensures done { result ≡ Done → CommandIsDone (S.whole sources.now) matches.now }
+    ensures refused { result ≡ Refused → CommandIsRefused (S.whole sources.now) matches.now result }
 {
     if let Some(words) = matches.subcommand_matches(VALUE) {
         return value_of(rt, sources, words, explains(words, is_watched));
@@ -71,6 +77,6 @@ where
     }
     match matches.subcommand_matches(RUN) {
         Some(words) => run_of(rt, sources, words, is_watched),
-        None => USAGE,
+        None => ExitStatus::Usage,
     }
 }

@@ -3,10 +3,13 @@
 use adjudicate::Stop;
 use claim_gate::TermsFault;
 use console::names::{BALANCES, FILE};
-use diagnostics::{Explanation, FileKind, Message, explain_file, explain_record, terms_words};
+use diagnostics::{
+    FileKind, Message, explain, explain_file, explain_record, memory, run_explanation,
+    terms_explanation,
+};
 use intake_csv::BalanceFault;
 use std::alloc::{AllocError, Global};
-use value_command::{About, print_message, resource_message, value_message};
+use value_command::{About, print_message, value_message};
 
 /// What an explanation needs of a command over a plan and files.
 #[derive(Clone, Copy)]
@@ -55,7 +58,7 @@ fn message_of(alloc: Global, about: &AboutFiles, stop: &Stop) -> Result<Message,
     match stop {
         Stop::Value(stop) => value_message(alloc, &about.plan, stop),
         Stop::Terms(fault) => terms_message(alloc, about, fault),
-        Stop::Run(_) => resource_message(alloc, "run fault 3"),
+        Stop::Run(fault) => explain(alloc, run_explanation(*fault)),
     }
 }
 
@@ -72,9 +75,9 @@ fn terms_message(
             explain_file(alloc, name, text, plan, FileKind::Claims, *fault)
         }
         TermsFault::Balances(fault) => balances_message(alloc, about, fault),
-        TermsFault::NoRoles => explanation_message(alloc, terms_words(1)),
-        TermsFault::Files => explanation_message(alloc, terms_words(2)),
-        TermsFault::OutOfMemory => resource_message(alloc, "no memory"),
+        TermsFault::NoRoles | TermsFault::Files | TermsFault::OutOfMemory => {
+            explain(alloc, terms_explanation(fault))
+        }
     }
 }
 
@@ -91,12 +94,6 @@ fn balances_message(
             explain_file(alloc, name, text, plan, FileKind::Balances, *fault)
         }
         BalanceFault::Row { number, fault } => explain_record(alloc, name, text, *number, fault),
-        BalanceFault::OutOfMemory => resource_message(alloc, "no memory"),
+        BalanceFault::OutOfMemory => explain(alloc, memory()),
     }
-}
-
-fn explanation_message(alloc: Global, words: Explanation) -> Result<Message, AllocError> {
-    let mut page = Message::new(alloc);
-    page.words(words)?;
-    Ok(page)
 }

@@ -1,6 +1,7 @@
 //! The command `run`: reads the options and the files, and writes the remittance.
 
-ghost use Rattle.std.specs.Prelude.{◌≡◌, ◌≢◌, ◌≤◌, IfErr, IfOk, map, option_map};
+ghost use Rattle.std.specs.Prelude.{◌≡◌, ◌≢◌, IfErr, IfOk, map, option_map};
+ghost use Rattle.console.specs.declared.exit_status.ExitStatus.TheVariants.{Done, Refused, Resource};
 ghost use Rattle.std.specs.Io.KnownBytes.{Keeps};
 ghost use Rattle.claim_gate.specs.Terms.{text_in, texts_of as texts_after};
 ghost use Rattle.adjudicate.specs.RunStop.{IsRunReason};
@@ -8,21 +9,17 @@ ghost use Rattle.console.specs.Reading.{IsReadUpTo};
 ghost use Rattle.intake_csv.specs.Limits.{file_limit_bytes};
 ghost use Rattle.adjudicate.specs.RunText.{IsRemittance, run_texts};
 ghost use Rattle.value_command.specs.Ends.{HasText, PutsText};
-ghost use Rattle.commands.specs.Ends.{HasRemittance, IsStatusOfRefusal, RunIsDone, RunIsRefused, IsRefusedRun};
+ghost use Rattle.commands.specs.Ends.{HasRemittance, IsStatusOfRefusal, IsUnreadStatus, RunIsDone, RunIsRefused, IsRefusedRun};
 ghost use Rattle.commands.specs.Texts.{AreNamedBalances, AreNamedFiles, HasNamedTexts};
-ghost use Rattle.commands.specs.Words.{IsStrict};
 
 use crate::explaining::{AboutFiles, explain_refusal};
-use crate::strict::unused_status;
+use crate::strict::refuse_unused;
 use crate::summary::summary_of;
 use crate::words::{cutoff_of, is_strict, workers_of};
 use adjudicate::{Counting, FILE_LIMIT_BYTES, RunInput, do_counted_run};
 use clap::ArgMatches;
 use console::names::{BALANCES, FILE, SUMMARY};
-use console::{
-    AtomicTarget, DONE, Heartbeat, REFUSED, RESOURCE, Sources, USAGE, explains, input_once,
-    no_memory,
-};
+use console::{AtomicTarget, ExitStatus, Heartbeat, Sources, explains, input_once, no_memory};
 use fixpoint::Out;
 use std::alloc::{AllocError, Global};
 use std::io;
@@ -76,13 +73,17 @@ impl Texts {
 }
 
 /// Runs the command `run`, and returns its exit status. If standard error is a terminal, a long run prints progress lines there.
-pub fn run_of<R, S: Sources>(rt: &R, sources: &S, matches: &ArgMatches<'_>, is_watched: bool) -> u8
+pub fn run_of<R, S: Sources>(
+    rt: &R,
+    sources: &S,
+    matches: &ArgMatches<'_>,
+    is_watched: bool,
+) -> ExitStatus
 where
     R: Files + Print + Eprint + AllocGlobal,
     R: Clock + Threads + Wait + Clone + Drop + Send + Sync + 'static,
-    ensures known { result ≤ RESOURCE }
-    ensures done { result ≡ DONE → RunIsDone (S.whole sources.now) matches.now }
-    ensures refused { result ≡ REFUSED → RunIsRefused (S.whole sources.now) matches.now result }
+    ensures done { result ≡ Done → RunIsDone (S.whole sources.now) matches.now }
+    ensures refused { result ≡ Refused → RunIsRefused (S.whole sources.now) matches.now result }
 {
     let heartbeat = if is_watched {
         Heartbeat::start(rt)
@@ -101,12 +102,11 @@ fn settle_named<R, S: Sources>(
     sources: &S,
     matches: &ArgMatches<'_>,
     is_watched: bool,
-) -> u8
+) -> ExitStatus
 where
     R: Files + Print + Eprint + AllocGlobal + Threads + Wait + Sync,
-    ensures known { result ≤ RESOURCE }
-    ensures done { result ≡ DONE → RunIsDone (S.whole sources.now) matches.now }
-    ensures refused { result ≡ REFUSED → RunIsRefused (S.whole sources.now) matches.now result }
+    ensures done { result ≡ Done → RunIsDone (S.whole sources.now) matches.now }
+    ensures refused { result ≡ Refused → RunIsRefused (S.whole sources.now) matches.now result }
 {
     let explains = explains(matches, is_watched);
     match texts_of(rt, sources, matches, explains) {
@@ -121,15 +121,14 @@ fn settle<R>(
     texts: &Texts,
     is_watched: bool,
     explains: bool,
-) -> u8
+) -> ExitStatus
 where
     R: Files + Print + Eprint + AllocGlobal + Threads + Wait + Sync,
-    ensures known { result ≤ RESOURCE }
-    ensures done { result ≡ DONE → HasRemittance matches.now texts.now }
-    ensures refused { result ≡ REFUSED → IsRefusedRun matches.now texts.now result }
+    ensures done { result ≡ Done → HasRemittance matches.now texts.now }
+    ensures refused { result ≡ Refused → IsRefusedRun matches.now texts.now result }
 {
     let Some(workers) = workers_of(matches) else {
-        return USAGE;
+        return ExitStatus::Usage;
     };
     let Ok(files) = slices_of(rt.alloc(), &texts.files) else {
         return no_memory(rt);
@@ -147,12 +146,11 @@ where
 
 /// Runs into the file of `--output` or to standard output, and prints the counts of the records if
 /// they are requested.
-fn run_anywhere<R>(rt: &R, about: &AboutFiles, input: RunInput, has_summary: bool) -> u8
+fn run_anywhere<R>(rt: &R, about: &AboutFiles, input: RunInput, has_summary: bool) -> ExitStatus
 where
     R: Files + Print + Eprint + AllocGlobal + Threads + Wait + Sync,
-    ensures known { result ≤ RESOURCE }
-    ensures done { result ≡ DONE → HasText (IsRemittance (run_texts input.entry)) }
-    ensures refused { result ≢ DONE
+    ensures done { result ≡ Done → HasText (IsRemittance (run_texts input.entry)) }
+    ensures refused { result ≢ Done
         → IsStatusOfRefusal (IsRunReason (run_texts input.entry) input.entry.workers) result }
 {
     let mut counting = if has_summary {
@@ -161,19 +159,23 @@ where
         Counting::nothing()
     };
     let status = run_to_output(rt, about, input, &mut counting);
-    if status == DONE {
+    if status == ExitStatus::Done {
         report_counts(rt, &counting);
     }
     status
 }
 
 #[tactic(auto, using(crate::proofs::Ends::put_is_text))]
-fn run_to_output<R>(rt: &R, about: &AboutFiles, input: RunInput, counting: &mut Counting) -> u8
+fn run_to_output<R>(
+    rt: &R,
+    about: &AboutFiles,
+    input: RunInput,
+    counting: &mut Counting,
+) -> ExitStatus
 where
     R: Files + Print + Eprint + AllocGlobal + Threads + Wait + Sync,
-    ensures known { result ≤ RESOURCE }
-    ensures done { result ≡ DONE → HasText (IsRemittance (run_texts input.entry)) }
-    ensures refused { result ≢ DONE
+    ensures done { result ≡ Done → HasText (IsRemittance (run_texts input.entry)) }
+    ensures refused { result ≢ Done
         → IsStatusOfRefusal (IsRunReason (run_texts input.entry) input.entry.workers) result }
 {
     match output_of(rt, &about.plan) {
@@ -193,12 +195,11 @@ fn report_counts<R: Eprint + AllocGlobal>(rt: &R, counting: &Counting) {
 }
 
 /// The command `run` over its texts.
-fn run<R>(rt: &R, about: &AboutFiles, input: RunInput, counting: &mut Counting) -> u8
+fn run<R>(rt: &R, about: &AboutFiles, input: RunInput, counting: &mut Counting) -> ExitStatus
 where
     R: Print + Eprint + AllocGlobal + Threads + Wait + Sync,
-    ensures known { result ≤ RESOURCE }
-    ensures done { result ≡ DONE → HasText (IsRemittance (run_texts input.entry)) }
-    ensures refused { result ≢ DONE
+    ensures done { result ≡ Done → HasText (IsRemittance (run_texts input.entry)) }
+    ensures refused { result ≢ Done
         → IsStatusOfRefusal (IsRunReason (run_texts input.entry) input.entry.workers) result }
 {
     let mut out = Out::new(io::writer(rt));
@@ -216,14 +217,13 @@ fn run_into<R, P: AtomicTarget>(
     input: RunInput,
     place: &mut P,
     counting: &mut Counting,
-) -> u8
+) -> ExitStatus
 where
     R: Eprint + AllocGlobal + Threads + Wait + Sync,
-    ensures known { result ≤ RESOURCE }
-    ensures done { result ≡ DONE → PutsText (IsRemittance (run_texts input.entry))
+    ensures done { result ≡ Done → PutsText (IsRemittance (run_texts input.entry))
         (P.current place.old) (P.current place.new) }
-    ensures kept { result ≢ DONE → Keeps (P.current place.old) (P.current place.new) }
-    ensures refused { result ≢ DONE
+    ensures kept { result ≢ Done → Keeps (P.current place.old) (P.current place.new) }
+    ensures refused { result ≢ Done
         → IsStatusOfRefusal (IsRunReason (run_texts input.entry) input.entry.workers) result }
 {
     let text = match place.begin() {
@@ -253,19 +253,14 @@ fn texts_of<R: Eprint + AllocGlobal, S: Sources>(
     sources: &S,
     matches: &ArgMatches<'_>,
     explains: bool,
-) -> Result<Texts, u8>
+) -> Result<Texts, ExitStatus>
     ensures named { IfOk result (HasNamedTexts (S.whole sources.now) matches.now) }
-    ensures known { IfErr result (λ status. status ≤ RESOURCE) }
-    ensures failed { IfErr result (λ status. status ≢ DONE) }
-    ensures refused { IfErr result (λ status. status ≡ REFUSED → IsStrict matches.now) }
+    ensures failed { IfErr result (IsUnreadStatus matches.now) }
 {
     input_once(rt, matches)?;
     let plan = plan_of(rt, sources, matches, explains)?;
     if is_strict(matches) {
-        let status = unused_status(rt, plan.as_slice());
-        if status != DONE {
-            return Err(status);
-        }
+        refuse_unused(rt, plan.as_slice())?;
     }
     Ok(Texts {
         plan,
@@ -279,10 +274,10 @@ fn balances_of<R: Eprint + AllocGlobal, S: Sources>(
     sources: &S,
     matches: &ArgMatches<'_>,
     explains: bool,
-) -> Result<Option<Vec<u8>>, u8>
+) -> Result<Option<Vec<u8>>, ExitStatus>
     ensures named { IfOk result (λ balances. AreNamedBalances
         (S.whole sources.now) matches.now (option_map (λ b. b.items) balances)) }
-    ensures failed { IfErr result (λ status. status ≡ RESOURCE) }
+    ensures failed { IfErr result (λ status. status ≡ Resource) }
 {
     let Some(name) = matches.get_str(BALANCES) else {
         return Ok(None);
@@ -299,10 +294,10 @@ fn files_of<R: Eprint + AllocGlobal, S: Sources>(
     sources: &S,
     matches: &ArgMatches<'_>,
     explains: bool,
-) -> Result<Vec<Vec<u8>>, u8>
+) -> Result<Vec<Vec<u8>>, ExitStatus>
     ensures named { IfOk result (λ files. AreNamedFiles
         (S.whole sources.now) matches.now (map (λ f. f.items) files.items)) }
-    ensures failed { IfErr result (λ status. status ≡ RESOURCE) }
+    ensures failed { IfErr result (λ status. status ≡ Resource) }
 {
     let names = matches.get_strs(FILE).unwrap_or(&[]);
     let mut files = Vec::new(rt.alloc());
@@ -321,10 +316,10 @@ fn file_of<R: Eprint + AllocGlobal, S: Sources>(
     name: &str,
     number: usize,
     explains: bool,
-) -> Result<Vec<u8>, u8>
+) -> Result<Vec<u8>, ExitStatus>
     ensures read { IfOk result (λ bytes.
         IsReadUpTo file_limit_bytes (S.whole sources.now name.now) bytes.items) }
-    ensures failed { IfErr result (λ status. status ≡ RESOURCE) }
+    ensures failed { IfErr result (λ status. status ≡ Resource) }
 {
     let Ok(line) = format!(in rt.alloc(); "cannot read file {number}") else {
         return Err(no_memory(rt));

@@ -1,19 +1,20 @@
 //! Reports the unknown keys of a plan, for `--strict`.
 
-ghost use Rattle.std.specs.Prelude.{◌≤◌};
+ghost use Rattle.std.specs.Prelude.{IfErr};
+ghost use Rattle.commands.specs.Ends.{IsUnusedStatus};
 
-use console::{DONE, REFUSED, RESOURCE, no_memory};
+use console::{ExitStatus, no_memory};
 use diagnostics::{UnusedKey, push_printable, unread_keys};
 use std::alloc::{AllocError, Global};
 
-/// Prints a line for each unknown key of the plan, and returns the status: `REFUSED` if there is one.
-pub fn unused_status<R: Eprint + AllocGlobal>(rt: &R, plan: &[u8]) -> u8
-    ensures known { result ≤ RESOURCE }
+/// Prints a line for each unknown key of the plan. The error is `Refused` if there is one, and `Resource` if memory ran out for the search.
+pub fn refuse_unused<R: Eprint + AllocGlobal>(rt: &R, plan: &[u8]) -> Result<(), ExitStatus>
+    ensures { IfErr result IsUnusedStatus }
 {
     match print_unused(rt, plan) {
-        Ok(true) => REFUSED,
-        Ok(false) => DONE,
-        Err(_) => no_memory(rt),
+        Ok(true) => Err(ExitStatus::Refused),
+        Ok(false) => Ok(()),
+        Err(_) => Err(no_memory(rt)),
     }
 }
 

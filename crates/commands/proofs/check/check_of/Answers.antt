@@ -1,5 +1,12 @@
-use Rattle.std.proofs.Common.{rules}
+use Rattle.std.proofs.Common.{inr, rules}
+use Rattle.value_command.proofs.Ends.{unjudged_not_done, unjudged_not_refused}
 use Rattle.commands.proofs.check.check_of.Goals as goal
+
+pub returns-in-Err-clause-done : goal.returns-in-Err-clause-done
+returns-in-Err-clause-done g c = λ is_done. absurd (unjudged_not_done _ c.in-Err.ensures.failed is_done)
+
+pub returns-in-Err-clause-refused : goal.returns-in-Err-clause-refused
+returns-in-Err-clause-refused g c = λ is_refused. absurd (unjudged_not_refused _ c.in-Err.ensures.failed is_refused)
 
 pub returns-then-is_strict-clause-done : goal.returns-then-is_strict-clause-done
 returns-then-is_strict-clause-done g c = search rules
