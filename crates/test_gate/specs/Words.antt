@@ -1,5 +1,5 @@
 -- Definitions for tests only: the progress of reading a provider's file, and the jobs in progress.
-use Rattle.std.specs.Prelude.{◌≡◌, ℕ, true, List, ◌++◌, length}
+use Rattle.std.specs.Prelude.{◌≡◌, ℕ, true, false, List, ◌++◌, length}
 use Rattle.settlement.specs.declared.claim.Claim.{Claim}
 use Rattle.intake_csv.specs.Laws.{LieApart}
 use Rattle.intake_csv.specs.Rows.{AreRowsLeft, RowsLeft, claims_among}
@@ -33,10 +33,11 @@ pub record IsAtWork (gate : GateParts) (job : Job) : Type 0 where
 abbrev pub WorkStays : GateParts → GateParts → Type 0
 WorkStays old new = (job : Job) → IsAtWork old job → IsAtWork new job
 
--- the pass belongs to the gate, and has seen these terms
+-- the pass belongs to the gate, and has seen these terms, under which claims are accepted in any order
 pub record IsCaller {P : Type 0} (has_pass : P → Type 0) (known : P → Known) (terms : TermsParts) (pass : P) : Type 0 where
   pub own : has_pass pass
   pub terms_are : (known pass).seen.terms ≡ terms
+  pub any_order : terms.in_order ≡ false
 
 -- both passes belong to the gate, and have seen these terms
 pub record AreCallers {P : Type 0} (has_pass : P → Type 0) (known : P → Known) (terms : TermsParts) (passes : P × P) : Type 0 where

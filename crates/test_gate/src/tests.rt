@@ -13,6 +13,7 @@ mod last_ticket;
 mod locks;
 mod meeting;
 mod no_room;
+mod own_gate;
 mod rivals;
 mod runs;
 mod shared;

@@ -12,8 +12,8 @@ ghost use Rattle.test_gate.specs.Words.{IsTaken};
 use super::events::{Word, last_word};
 use super::expects;
 use claim_gate::{
-    Accepted, BoxedOutcome, Counts, EndFault, Ended, FinishFault, GateState, Job, Offer,
-    OfferFault, Recorded, TakeFault, Taken,
+    BoxedOutcome, Counts, DecidedJob, EndFault, Ended, FinishFault, FinishResult, GateState, Job,
+    Offer, OfferFault, OfferResult, Refused, TakeFault, Taken,
 };
 use journal::jobs_are_stable;
 use settlement::Money;
@@ -58,25 +58,18 @@ pub fn is_paid(job: &Job, outcome: &BoxedOutcome, position: usize, paid: Money) 
 
 /// Calls `GateState::offer`. The contract is the part that the tests use.
 #[tactic(auto, using(crate::proofs::Order::any_order))]
-pub fn offer_once<'t>(
-    gate: &mut GateState<'t>,
-    offer: Offer,
-) -> Result<Accepted, (OfferFault, Offer)>
+pub fn offer_once<'t>(gate: &mut GateState<'t>, offer: Offer) -> OfferResult
     requires filed { ForTerms gate.old.terms (λ T. IsFiled T offer) }
     requires any_order { gate.old.terms.in_order ≡ false }
     ensures leads { LeadsTo gate.old gate.new }
-    ensures back { IfErr result (λ refused. refused.1 ≡ offer) }
+    ensures back { IfErr result (λ refused. refused.value ≡ offer) }
     ensures refused { OnErr result (gate.new ≡ gate.old) }
 {
     gate.offer(offer)
 }
 
 /// Offers a claim, and repeats the call once if it runs out of memory.
-pub fn offer<'t>(
-    rt: &impl Abort,
-    gate: &mut GateState<'t>,
-    offer: Offer,
-) -> Result<Accepted, (OfferFault, Offer)>
+pub fn offer<'t>(rt: &impl Abort, gate: &mut GateState<'t>, offer: Offer) -> OfferResult
     requires filed { ForTerms gate.old.terms (λ T. IsFiled T offer) }
     requires any_order { gate.old.terms.in_order ≡ false }
     ensures leads { LeadsTo gate.old gate.new }
@@ -85,7 +78,12 @@ pub fn offer<'t>(
     let (provider, place) = (offer.provider, offer.place);
     match offer_once(gate, offer) {
         Ok(accepted) => Ok(accepted),
-        Err((OfferFault::OutOfMemory, back)) => {
+        Err(
+            Refused {
+                fault: OfferFault::OutOfMemory,
+                value: back,
+            },
+        ) => {
             before.still_located(rt, gate);
             expects(rt, is_at(&back, provider, place), "the offer");
             offer_once(gate, back)
@@ -152,17 +150,14 @@ pub fn take<'t>(rt: &impl Abort, gate: &mut GateState<'t>) -> Result<Taken, Take
 }
 
 /// Calls `GateState::finish`. The contract is the part that the tests use.
-pub fn finish_once<'t>(
-    gate: &mut GateState<'t>,
-    job: Job,
-    outcome: BoxedOutcome,
-) -> Result<Recorded, (FinishFault, Job, BoxedOutcome)>
+pub fn finish_once<'t>(gate: &mut GateState<'t>, job: Job, outcome: BoxedOutcome) -> FinishResult
     requires in_work { has_take gate.old.journal job.position ≡ true }
     requires job { ForTerms gate.old.terms
         (λ T. IsJob T gate.old.journal job.position job.claim job.acc) }
     requires settled { outcome ≡ outcome_of gate.old.terms.plan job.claim job.acc }
     ensures leads { LeadsTo gate.old gate.new }
-    ensures back { IfErr result (λ refused. (refused.1 ≡ job) × (refused.2 ≡ outcome)) }
+    ensures back { IfErr result
+        (λ refused. (refused.value.job ≡ job) × (refused.value.outcome ≡ outcome)) }
     ensures refused { OnErr result (gate.new ≡ gate.old) }
 {
     gate.finish(job, outcome)
@@ -174,7 +169,7 @@ pub fn finish<'t>(
     gate: &mut GateState<'t>,
     job: Job,
     outcome: BoxedOutcome,
-) -> Result<Recorded, (FinishFault, Job, BoxedOutcome)>
+) -> FinishResult
     requires in_work { has_take gate.old.journal job.position ≡ true }
     requires job { ForTerms gate.old.terms
         (λ T. IsJob T gate.old.journal job.position job.claim job.acc) }
@@ -185,7 +180,13 @@ pub fn finish<'t>(
     let (position, paid) = (job.position, outcome.outcome().paid);
     match finish_once(gate, job, outcome) {
         Ok(recorded) => Ok(recorded),
-        Err((FinishFault::OutOfMemory, job, outcome)) => {
+        Err(
+            Refused {
+                fault: FinishFault::OutOfMemory,
+                value,
+            },
+        ) => {
+            let DecidedJob { job, outcome } = value;
             before.still_located(rt, gate);
             let same = is_paid(&job, &outcome, position, paid);
             expects(rt, same, "the job and its outcome");

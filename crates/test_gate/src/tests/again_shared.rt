@@ -2,7 +2,7 @@
 //! of memory is repeated once, after a check that the gate still has the counts `before`, which it
 //! had before the call. No test expects a second refusal. Each test is run once for each of its
 //! allocations, with that allocation refused.
-ghost use Rattle.std.specs.Prelude.{◌≡◌, false, IfOk, IfErr};
+ghost use Rattle.std.specs.Prelude.{◌≡◌, IfOk, IfErr};
 ghost use Rattle.claim_gate.specs.Terms.{ForTerms};
 ghost use Rattle.journal.specs.Gate.{LeadsTo};
 ghost use Rattle.journal.specs.Settled.{outcome_of};
@@ -12,8 +12,8 @@ ghost use Rattle.test_gate.specs.Words.{IsAtWork, IsCaller, IsTaken};
 use super::again::{is_at, is_paid};
 use super::{expects, fail};
 use claim_gate::{
-    Accepted, BoxedOutcome, Counts, EndFault, Ended, FinishFault, Gate, Job, Offer, OfferFault,
-    Recorded, TakeFault, Taken, Terms,
+    BoxedOutcome, Counts, DecidedJob, EndFault, Ended, FinishFault, FinishResult, Gate, Job, Offer,
+    OfferFault, OfferResult, Refused, Served, TakeFault, Taken, Terms,
 };
 use journal::jobs_are_stable;
 use std::process::Abort;
@@ -32,8 +32,8 @@ fn is_unchanged<G: Gate>(
     ensures leads { LeadsTo (G.known pass).seen (G.known result).seen }
 {
     match gate.counts(rt, pass) {
-        Ok((reached, pass)) => {
-            expects(rt, reached == before, "the counts of before");
+        Ok(Served { reply, pass }) => {
+            expects(rt, reply == before, "the counts of before");
             pass
         }
         Err(_) => fail(rt, "counts"),
@@ -48,17 +48,16 @@ pub fn offer_once<G: Gate>(
     gate: &G,
     pass: G::Pass,
     offer: Offer,
-) -> (Result<Accepted, (OfferFault, Offer)>, G::Pass)
+) -> Served<OfferResult, G::Pass>
     requires caller { IsCaller (G.has_pass gate.now) G.known terms.now pass }
     requires filed { ForTerms terms.now (λ T. IsFiled T offer) }
-    requires any_order { terms.now.in_order ≡ false }
-    ensures caller { IsCaller (G.has_pass gate.now) G.known terms.now result.1 }
-    ensures leads { LeadsTo (G.known pass).seen (G.known result.1).seen }
-    ensures back { IfErr result.0 (λ refused. refused.1 ≡ offer) }
+    ensures caller { IsCaller (G.has_pass gate.now) G.known terms.now result.pass }
+    ensures leads { LeadsTo (G.known pass).seen (G.known result.pass).seen }
+    ensures back { IfErr result.reply (λ refused. refused.value ≡ offer) }
 {
     let _plan = terms.plan();
     match gate.offer(rt, pass, offer) {
-        Ok(answer) => answer,
+        Ok(served) => served,
         Err(_) => fail(rt, "a reply"),
     }
 }
@@ -71,18 +70,20 @@ pub fn offer<G: Gate>(
     pass: G::Pass,
     offer: Offer,
     before: Counts,
-) -> (Result<Accepted, (OfferFault, Offer)>, G::Pass)
+) -> Served<OfferResult, G::Pass>
     requires caller { IsCaller (G.has_pass gate.now) G.known terms.now pass }
     requires filed { ForTerms terms.now (λ T. IsFiled T offer) }
-    requires any_order { terms.now.in_order ≡ false }
-    ensures caller { IsCaller (G.has_pass gate.now) G.known terms.now result.1 }
-    ensures leads { LeadsTo (G.known pass).seen (G.known result.1).seen }
+    ensures caller { IsCaller (G.has_pass gate.now) G.known terms.now result.pass }
+    ensures leads { LeadsTo (G.known pass).seen (G.known result.pass).seen }
 {
     let (provider, place) = (offer.provider, offer.place);
-    let (reply, pass) = offer_once(rt, terms, gate, pass, offer);
+    let Served { reply, pass } = offer_once(rt, terms, gate, pass, offer);
     match reply {
-        Ok(accepted) => (Ok(accepted), pass),
-        Err((fault, back)) => {
+        Ok(accepted) => Served {
+            reply: Ok(accepted),
+            pass,
+        },
+        Err(Refused { fault, value: back }) => {
             expects(rt, fault == OfferFault::OutOfMemory, "no other fault");
             expects(rt, is_at(&back, provider, place), "the offer");
             let pass = is_unchanged(rt, terms, gate, pass, before);
@@ -97,16 +98,16 @@ pub fn take_once<G: Gate>(
     terms: &Terms,
     gate: &G,
     pass: G::Pass,
-) -> (Result<Taken, TakeFault>, G::Pass)
+) -> Served<Result<Taken, TakeFault>, G::Pass>
     requires caller { IsCaller (G.has_pass gate.now) G.known terms.now pass }
-    ensures caller { IsCaller (G.has_pass gate.now) G.known terms.now result.1 }
-    ensures leads { LeadsTo (G.known pass).seen (G.known result.1).seen }
-    ensures work { IfOk result.0 (IsTaken (G.known result.1).seen) }
+    ensures caller { IsCaller (G.has_pass gate.now) G.known terms.now result.pass }
+    ensures leads { LeadsTo (G.known pass).seen (G.known result.pass).seen }
+    ensures work { IfOk result.reply (IsTaken (G.known result.pass).seen) }
 {
     jobs_are_stable();
     let _plan = terms.plan();
     match gate.take(rt, pass) {
-        Ok(answer) => answer,
+        Ok(served) => served,
         Err(_) => fail(rt, "a reply"),
     }
 }
@@ -118,15 +119,18 @@ pub fn take<G: Gate>(
     gate: &G,
     pass: G::Pass,
     before: Counts,
-) -> (Result<Taken, TakeFault>, G::Pass)
+) -> Served<Result<Taken, TakeFault>, G::Pass>
     requires caller { IsCaller (G.has_pass gate.now) G.known terms.now pass }
-    ensures caller { IsCaller (G.has_pass gate.now) G.known terms.now result.1 }
-    ensures leads { LeadsTo (G.known pass).seen (G.known result.1).seen }
-    ensures work { IfOk result.0 (IsTaken (G.known result.1).seen) }
+    ensures caller { IsCaller (G.has_pass gate.now) G.known terms.now result.pass }
+    ensures leads { LeadsTo (G.known pass).seen (G.known result.pass).seen }
+    ensures work { IfOk result.reply (IsTaken (G.known result.pass).seen) }
 {
-    let (reply, pass) = take_once(rt, terms, gate, pass);
+    let Served { reply, pass } = take_once(rt, terms, gate, pass);
     match reply {
-        Ok(taken) => (Ok(taken), pass),
+        Ok(taken) => Served {
+            reply: Ok(taken),
+            pass,
+        },
         Err(_) => {
             let pass = is_unchanged(rt, terms, gate, pass, before);
             take_once(rt, terms, gate, pass)
@@ -142,17 +146,18 @@ pub fn finish_once<G: Gate>(
     pass: G::Pass,
     job: Job,
     outcome: BoxedOutcome,
-) -> (Result<Recorded, (FinishFault, Job, BoxedOutcome)>, G::Pass)
+) -> Served<FinishResult, G::Pass>
     requires caller { IsCaller (G.has_pass gate.now) G.known terms.now pass }
     requires at_work { IsAtWork (G.known pass).seen job }
     requires settled { outcome ≡ outcome_of terms.now.plan job.claim job.acc }
-    ensures caller { IsCaller (G.has_pass gate.now) G.known terms.now result.1 }
-    ensures leads { LeadsTo (G.known pass).seen (G.known result.1).seen }
-    ensures back { IfErr result.0 (λ refused. (refused.1 ≡ job) × (refused.2 ≡ outcome)) }
+    ensures caller { IsCaller (G.has_pass gate.now) G.known terms.now result.pass }
+    ensures leads { LeadsTo (G.known pass).seen (G.known result.pass).seen }
+    ensures back { IfErr result.reply
+        (λ refused. (refused.value.job ≡ job) × (refused.value.outcome ≡ outcome)) }
 {
     let _plan = terms.plan();
     match gate.finish(rt, pass, job, outcome) {
-        Ok(answer) => answer,
+        Ok(served) => served,
         Err(_) => fail(rt, "a reply"),
     }
 }
@@ -166,19 +171,23 @@ pub fn finish<G: Gate>(
     job: Job,
     outcome: BoxedOutcome,
     before: Counts,
-) -> (Result<Recorded, (FinishFault, Job, BoxedOutcome)>, G::Pass)
+) -> Served<FinishResult, G::Pass>
     requires caller { IsCaller (G.has_pass gate.now) G.known terms.now pass }
     requires at_work { IsAtWork (G.known pass).seen job }
     requires settled { outcome ≡ outcome_of terms.now.plan job.claim job.acc }
-    ensures caller { IsCaller (G.has_pass gate.now) G.known terms.now result.1 }
-    ensures leads { LeadsTo (G.known pass).seen (G.known result.1).seen }
+    ensures caller { IsCaller (G.has_pass gate.now) G.known terms.now result.pass }
+    ensures leads { LeadsTo (G.known pass).seen (G.known result.pass).seen }
 {
     jobs_are_stable();
     let (position, paid) = (job.position, outcome.outcome().paid);
-    let (reply, pass) = finish_once(rt, terms, gate, pass, job, outcome);
+    let Served { reply, pass } = finish_once(rt, terms, gate, pass, job, outcome);
     match reply {
-        Ok(recorded) => (Ok(recorded), pass),
-        Err((fault, job, outcome)) => {
+        Ok(recorded) => Served {
+            reply: Ok(recorded),
+            pass,
+        },
+        Err(Refused { fault, value }) => {
+            let DecidedJob { job, outcome } = value;
             expects(rt, fault == FinishFault::OutOfMemory, "no other fault");
             let same = is_paid(&job, &outcome, position, paid);
             expects(rt, same, "the job and its outcome");
@@ -196,15 +205,15 @@ pub fn end_once<G: Gate>(
     pass: G::Pass,
     provider: usize,
     count: usize,
-) -> (Result<Ended, EndFault>, G::Pass)
+) -> Served<Result<Ended, EndFault>, G::Pass>
     requires caller { IsCaller (G.has_pass gate.now) G.known terms.now pass }
     requires claims { ForTerms terms.now (λ T. HasClaims T provider count) }
-    ensures caller { IsCaller (G.has_pass gate.now) G.known terms.now result.1 }
-    ensures leads { LeadsTo (G.known pass).seen (G.known result.1).seen }
+    ensures caller { IsCaller (G.has_pass gate.now) G.known terms.now result.pass }
+    ensures leads { LeadsTo (G.known pass).seen (G.known result.pass).seen }
 {
     let _plan = terms.plan();
     match gate.end(rt, pass, provider, count) {
-        Ok(answer) => answer,
+        Ok(served) => served,
         Err(_) => fail(rt, "a reply"),
     }
 }
@@ -224,13 +233,13 @@ pub fn end<G: Gate>(
     requires claims { ForTerms terms.now (λ T. HasClaims T provider count) }
     ensures caller { IsCaller (G.has_pass gate.now) G.known terms.now result }
 {
-    let (reply, pass) = end_once(rt, terms, gate, pass, provider, count);
+    let Served { reply, pass } = end_once(rt, terms, gate, pass, provider, count);
     match reply {
         Ok(_) => pass,
         Err(fault) => {
             expects(rt, fault == EndFault::OutOfMemory, "no other fault");
             let pass = is_unchanged(rt, terms, gate, pass, before);
-            let (reply, pass) = end_once(rt, terms, gate, pass, provider, count);
+            let Served { reply, pass } = end_once(rt, terms, gate, pass, provider, count);
             expects(rt, reply.is_ok(), "an end");
             pass
         }

@@ -10,8 +10,8 @@ ghost use Rattle.test_gate.specs.Words.{IsAtWork, WorkStays};
 use super::filing::offer_at;
 use super::{again, expects, fail, is_nothing_ready, is_stopped};
 use claim_gate::{
-    Accepted, BoxedOutcome, EndFault, FinishFault, GateState, Job, Offer, OfferFault, Recorded,
-    TakeFault, Taken, Terms,
+    BoxedOutcome, EndFault, FinishFault, FinishResult, GateState, Job, Offer, OfferFault,
+    OfferResult, TakeFault, Taken, Terms,
 };
 use journal::jobs_are_stable;
 use settlement::{Acc, Claim, Outcome, decide};
@@ -19,7 +19,7 @@ use std::alloc::{AllocError, Global};
 use std::process::Abort;
 
 /// Returns whether a claim was accepted at this position.
-pub fn is_accepted(reply: Result<Accepted, (OfferFault, Offer)>, position: usize) -> bool {
+pub fn is_accepted(reply: OfferResult, position: usize) -> bool {
     match reply {
         Ok(accepted) => accepted.position == position,
         Err(_) => false,
@@ -37,7 +37,7 @@ pub fn work_of(rt: &impl Abort, reply: Result<Taken, TakeFault>) -> Job
 }
 
 /// Returns whether an outcome was recorded.
-pub fn is_recorded(reply: Result<Recorded, (FinishFault, Job, BoxedOutcome)>) -> bool {
+pub fn is_recorded(reply: FinishResult) -> bool {
     reply.is_ok()
 }
 
@@ -51,6 +51,7 @@ pub fn accept_at<'t>(
     place: usize,
     position: usize,
 )
+    requires any_order { terms.now.in_order ≡ false }
     requires terms { gate.old.terms ≡ terms.now }
     ensures terms { gate.new.terms ≡ terms.now }
     ensures stays { WorkStays gate.old gate.new }
@@ -81,10 +82,10 @@ fn refuse<'t>(
     let length = gate.journal().len();
     match gate.offer(offer) {
         Ok(_) => fail(rt, "a refusal"),
-        Err((given, back)) => {
-            expects(rt, given == fault, "this fault");
+        Err(refused) => {
+            expects(rt, refused.fault == fault, "this fault");
             expects(rt, gate.journal().len() == length, "no event more");
-            back
+            refused.value
         }
     }
 }
@@ -99,6 +100,7 @@ pub fn refuse_at<'t>(
     place: usize,
     fault: OfferFault,
 ) -> Offer
+    requires any_order { terms.now.in_order ≡ false }
     requires terms { gate.old.terms ≡ terms.now }
     ensures terms { gate.new.terms ≡ terms.now }
     ensures stays { WorkStays gate.old gate.new }
@@ -214,10 +216,10 @@ pub fn refuse_outcome<'t>(
     let length = gate.journal().len();
     match gate.finish(job, outcome) {
         Ok(_) => fail(rt, "a refusal"),
-        Err((given, job, outcome)) => {
-            expects(rt, given == fault, "this fault");
+        Err(refused) => {
+            expects(rt, refused.fault == fault, "this fault");
             expects(rt, gate.journal().len() == length, "no event more");
-            (job, outcome)
+            (refused.value.job, refused.value.outcome)
         }
     }
 }

@@ -1,6 +1,6 @@
 //! Claims of families: the claims of one family are decided one after another, and each is settled
 //! at the accumulators that the earlier claims of its member and of its family have left.
-ghost use Rattle.std.specs.Prelude.{◌≡◌};
+ghost use Rattle.std.specs.Prelude.{◌≡◌, false};
 ghost use Rattle.test_gate.specs.Words.{IsAtWork, WorkStays};
 
 use super::calls::{accept_at, find_nothing, record, take_job};
@@ -25,6 +25,7 @@ fn is_located_at(acc: Acc, met: i64, fmet: i64, oop: i64, foop: i64) -> bool {
 
 // Accepts all four claims: three of the members of one family, and one of another family.
 fn accept_all<'t>(rt: &impl Abort, alloc: Global, terms: &'t Terms<'t>, gate: &mut GateState<'t>)
+    requires any_order { terms.now.in_order ≡ false }
     requires terms { gate.old.terms ≡ terms.now }
     ensures terms { gate.new.terms ≡ terms.now }
 {
@@ -93,7 +94,9 @@ fn decide_alone<'t>(
     job
 }
 
-pub fn family_calls(rt: &impl Abort, alloc: Global, terms: &Terms) {
+pub fn family_calls(rt: &impl Abort, alloc: Global, terms: &Terms)
+    requires any_order { terms.now.in_order ≡ false }
+{
     let mut gate = gate_of(rt, alloc, terms);
     accept_all(rt, alloc, terms, &mut gate);
     let first = take_firsts(rt, terms, &mut gate);

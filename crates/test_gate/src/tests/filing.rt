@@ -35,7 +35,9 @@ pub fn terms_of<'a>(
     plan: &'a Plan,
     files: &'a [&'a [u8]],
     cutoff: Option<u64>,
-) -> Terms<'a> {
+) -> Terms<'a>
+    ensures { result.in_order ≡ false }
+{
     if let Ok(terms) = Terms::new(alloc, plan, files, None, cutoff) {
         return terms;
     }
@@ -163,10 +165,8 @@ pub fn offer_at(
     provider: usize,
     place: usize,
 ) -> Offer
-    ensures filed { ForTerms terms.now (λ T. IsFiled T result) }
-    ensures any_order { terms.now.in_order ≡ false }
+    ensures { ForTerms terms.now (λ T. IsFiled T result) }
 {
-    assert!(rt; !terms.in_order());
     match read_offer(rt, alloc, terms, provider, place) {
         Ok(offer) => offer,
         Err(_) => read_offer(rt, alloc, terms, provider, place).expect(rt, "memory for a claim"),

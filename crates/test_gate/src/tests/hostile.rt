@@ -1,5 +1,5 @@
 //! A run of a single claim at a shared gate, in which the outcome is passed to `finish` twice.
-ghost use Rattle.std.specs.Prelude.{◌≡◌};
+ghost use Rattle.std.specs.Prelude.{◌≡◌, false};
 ghost use Rattle.test_gate.specs.Words.{IsAtWork, IsCaller};
 
 use super::filing::read_all;
@@ -42,7 +42,7 @@ fn decide_copy<G: Gate>(
 }
 
 // Accepts the only claim, ends its provider, takes the claim and decides it.
-fn decide_only<G: Gate>(
+pub fn decide_only<G: Gate>(
     rt: &(impl Abort + Wait),
     alloc: Global,
     terms: &Terms,
@@ -72,6 +72,7 @@ fn run_of_one<S: Section + Drop>(
 where
     S::Value: SerialGate + Drop,
     S::Pass: Send + Drop,
+    requires any_order { terms.now.in_order ≡ false }
     requires own { S.has_pass lock pass }
     requires terms { (S.Value.shown (S.seen pass)).terms ≡ terms.now }
 {
@@ -81,17 +82,23 @@ where
     drop(gate);
 }
 
-fn by_a_spin_lock(rt: &(impl Abort + Wait), alloc: Global, terms: &Terms) {
+fn by_a_spin_lock(rt: &(impl Abort + Wait), alloc: Global, terms: &Terms)
+    requires any_order { terms.now.in_order ≡ false }
+{
     let (lock, pass) = spin_gate(rt, alloc, terms);
     run_of_one(rt, alloc, terms, lock, pass)
 }
 
-fn by_a_ticket_lock(rt: &(impl Abort + Wait), alloc: Global, terms: &Terms) {
+fn by_a_ticket_lock(rt: &(impl Abort + Wait), alloc: Global, terms: &Terms)
+    requires any_order { terms.now.in_order ≡ false }
+{
     let (lock, pass) = by_tickets(rt, alloc, terms);
     run_of_one(rt, alloc, terms, lock, pass)
 }
 
-pub fn by_both_locks(rt: &(impl Abort + Wait), alloc: Global, terms: &Terms) {
+pub fn by_both_locks(rt: &(impl Abort + Wait), alloc: Global, terms: &Terms)
+    requires any_order { terms.now.in_order ≡ false }
+{
     by_a_spin_lock(rt, alloc, terms);
     by_a_ticket_lock(rt, alloc, terms)
 }

@@ -1,6 +1,6 @@
 //! The worked calls on a shared gate, made by two passes in turn. The answers are those of the
 //! sequential gate.
-ghost use Rattle.std.specs.Prelude.{◌≡◌};
+ghost use Rattle.std.specs.Prelude.{◌≡◌, false};
 ghost use Rattle.journal.specs.Gate.{LeadsTo};
 ghost use Rattle.test_gate.specs.Words.{AreCallers, IsAtWork, IsCaller};
 
@@ -13,7 +13,7 @@ use super::shared::{
 use super::worked::{is_back, is_job_at, worked_journal};
 use super::{counts, expects, fail};
 use claim_gate::{
-    Counts, EndFault, FinishFault, Gate, Job, LockedGate, OfferFault, SerialGate, Terms,
+    Counts, EndFault, FinishFault, Gate, Job, LockedGate, OfferFault, SerialGate, Served, Terms,
 };
 use journal::jobs_are_stable;
 use std::alloc::Global;
@@ -242,26 +242,31 @@ fn calls_over<S: Section + Drop>(
 where
     S::Value: SerialGate + Drop,
     S::Pass: Send + Drop,
+    requires any_order { terms.now.in_order ≡ false }
     requires own { S.has_pass lock pass }
     requires terms { (S.Value.shown (S.seen pass)).terms ≡ terms.now }
 {
     let gate = LockedGate::over(lock);
     let passes = gate.split(pass);
     let pass = all_calls(rt, alloc, terms, &gate, passes);
-    let Ok((reached, pass)) = gate.counts(rt, pass) else {
+    let Ok(Served { reply, pass }) = gate.counts(rt, pass) else {
         fail(rt, "counts")
     };
-    expects(rt, is_stopped_at_three(reached), "these counts");
+    expects(rt, is_stopped_at_three(reply), "these counts");
     ends_with(rt, &gate, pass, worked_journal());
     drop(gate);
 }
 
-pub fn by_a_spin_lock(rt: &(impl Abort + Wait), alloc: Global, terms: &Terms) {
+pub fn by_a_spin_lock(rt: &(impl Abort + Wait), alloc: Global, terms: &Terms)
+    requires any_order { terms.now.in_order ≡ false }
+{
     let (lock, pass) = spin_gate(rt, alloc, terms);
     calls_over(rt, alloc, terms, lock, pass)
 }
 
-pub fn by_a_ticket_lock(rt: &(impl Abort + Wait), alloc: Global, terms: &Terms) {
+pub fn by_a_ticket_lock(rt: &(impl Abort + Wait), alloc: Global, terms: &Terms)
+    requires any_order { terms.now.in_order ≡ false }
+{
     let (lock, pass) = by_tickets(rt, alloc, terms);
     calls_over(rt, alloc, terms, lock, pass)
 }

@@ -1,6 +1,6 @@
 //! A gate with a ticket lock that has two tickets left, one, or none. Each call after the last
-//! ticket returns `Worn` with the pass and the arguments.
-ghost use Rattle.std.specs.Prelude.{◌≡◌};
+//! ticket returns `WornOut` with the pass and the arguments.
+ghost use Rattle.std.specs.Prelude.{◌≡◌, false};
 ghost use Rattle.test_gate.specs.Words.{IsAtWork, IsCaller};
 
 use super::calls::decide_job;
@@ -10,7 +10,7 @@ use super::runs::{Calls, run};
 use super::shared::{accept_at, take_job};
 use super::worked::is_back;
 use super::{counts, expects, fail};
-use claim_gate::{Gate, Job, LockedGate, SerialGate, Terms};
+use claim_gate::{Gate, Job, LockedGate, SerialGate, Terms, WornOut};
 use std::alloc::Global;
 use std::process::Abort;
 use std::sync::Wait;
@@ -31,11 +31,11 @@ fn worn_intake<G: Gate>(
 {
     let offer = offer_at(rt, alloc, terms, 1, 0);
     read_all(rt, alloc, terms, 1, 4);
-    let Err((_, pass, back)) = gate.offer(rt, pass, offer) else {
+    let Err(WornOut { pass, value: back }) = gate.offer(rt, pass, offer) else {
         fail(rt, "no ticket for an offer")
     };
     expects(rt, is_offer(back, 1, 0, "c1"), "the offer");
-    let Err((_, pass)) = gate.end(rt, pass, 1, 4) else {
+    let Err(WornOut { pass, .. }) = gate.end(rt, pass, 1, 4) else {
         fail(rt, "no ticket for an end")
     };
     pass
@@ -46,13 +46,13 @@ fn worn_calls<G: Gate>(rt: &(impl Abort + Wait), gate: &G, pass: G::Pass) -> G::
     requires { G.has_pass gate.now pass }
     ensures { G.has_pass gate.now result }
 {
-    let Err((_, pass)) = gate.take(rt, pass) else {
+    let Err(WornOut { pass, .. }) = gate.take(rt, pass) else {
         fail(rt, "no ticket for a take")
     };
-    let Err((_, pass)) = gate.stop(rt, pass) else {
+    let Err(WornOut { pass, .. }) = gate.stop(rt, pass) else {
         fail(rt, "no ticket for a stop")
     };
-    let Err((_, pass)) = gate.counts(rt, pass) else {
+    let Err(WornOut { pass, .. }) = gate.counts(rt, pass) else {
         fail(rt, "no ticket for the counts")
     };
     pass
@@ -69,6 +69,7 @@ fn calls_over<S: Section + Drop>(
 where
     S::Value: SerialGate + Drop,
     S::Pass: Send + Drop,
+    requires any_order { terms.now.in_order ≡ false }
     requires own { S.has_pass lock pass }
     requires terms { (S.Value.shown (S.seen pass)).terms ≡ terms.now }
 {
@@ -91,6 +92,7 @@ fn calls_without<S: Section + Drop>(
 where
     S::Value: SerialGate + Drop,
     S::Pass: Send + Drop,
+    requires any_order { terms.now.in_order ≡ false }
     requires own { S.has_pass lock pass }
     requires terms { (S.Value.shown (S.seen pass)).terms ≡ terms.now }
 {
@@ -112,10 +114,10 @@ fn worn_finish<G: Gate>(
     requires at_work { IsAtWork (G.known pass).seen job }
 {
     let outcome = decide_job(rt, alloc, terms, &job);
-    let Err((_, _pass, job, outcome)) = gate.finish(rt, pass, job, outcome) else {
+    let Err(worn) = gate.finish(rt, pass, job, outcome) else {
         fail(rt, "no ticket for a finish")
     };
-    let same = is_back(job, outcome, 0, "c1");
+    let same = is_back(worn.value.job, worn.value.outcome, 0, "c1");
     expects(rt, same, "the job and its outcome");
 }
 
@@ -130,6 +132,7 @@ fn finish_over<S: Section + Drop>(
 where
     S::Value: SerialGate + Drop,
     S::Pass: Send + Drop,
+    requires any_order { terms.now.in_order ≡ false }
     requires own { S.has_pass lock pass }
     requires terms { (S.Value.shown (S.seen pass)).terms ≡ terms.now }
 {
@@ -140,22 +143,30 @@ where
     worn_finish(rt, alloc, terms, &gate, pass, job)
 }
 
-fn one_ticket(rt: &(impl Abort + Wait), alloc: Global, terms: &Terms) {
+fn one_ticket(rt: &(impl Abort + Wait), alloc: Global, terms: &Terms)
+    requires any_order { terms.now.in_order ≡ false }
+{
     let (lock, pass) = with_used(rt, alloc, terms, u64::MAX - 1);
     calls_over(rt, alloc, terms, lock, pass)
 }
 
-fn no_ticket(rt: &(impl Abort + Wait), alloc: Global, terms: &Terms) {
+fn no_ticket(rt: &(impl Abort + Wait), alloc: Global, terms: &Terms)
+    requires any_order { terms.now.in_order ≡ false }
+{
     let (lock, pass) = with_used(rt, alloc, terms, u64::MAX);
     calls_without(rt, alloc, terms, lock, pass)
 }
 
-pub fn two_tickets(rt: &(impl Abort + Wait), alloc: Global, terms: &Terms) {
+pub fn two_tickets(rt: &(impl Abort + Wait), alloc: Global, terms: &Terms)
+    requires any_order { terms.now.in_order ≡ false }
+{
     let (lock, pass) = with_used(rt, alloc, terms, u64::MAX - 2);
     finish_over(rt, alloc, terms, lock, pass)
 }
 
-pub fn few_tickets(rt: &(impl Abort + Wait), alloc: Global, terms: &Terms) {
+pub fn few_tickets(rt: &(impl Abort + Wait), alloc: Global, terms: &Terms)
+    requires any_order { terms.now.in_order ≡ false }
+{
     no_ticket(rt, alloc, terms);
     one_ticket(rt, alloc, terms)
 }

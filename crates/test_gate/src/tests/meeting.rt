@@ -1,7 +1,7 @@
 //! Two passes of a gate with a ticket lock meet: afterwards each has seen what either of them had
 //! seen.
 
-ghost use Rattle.std.specs.Prelude.{◌≡◌};
+ghost use Rattle.std.specs.Prelude.{◌≡◌, false};
 ghost use Rattle.turn_lock.specs.TicketShown.{IsPassOf, pass_knows};
 ghost use Rattle.test_gate.specs.Words.{IsCaller};
 
@@ -10,7 +10,7 @@ use super::locks::{by_tickets, with_used};
 use super::runs::{Calls, run};
 use super::shared::{accept_at, find_stopped, refuse_at};
 use super::{counts, expects, fail};
-use claim_gate::{Gate, LockedGate, OfferFault, SerialGate, Terms};
+use claim_gate::{Gate, LockedGate, OfferFault, SerialGate, Served, Terms, WornOut};
 use std::alloc::Global;
 use std::process::Abort;
 use std::sync::Wait;
@@ -28,10 +28,10 @@ fn finds_one<G: Gate>(
     requires caller { IsCaller (G.has_pass gate.now) G.known terms.now pass }
     ensures caller { IsCaller (G.has_pass gate.now) G.known terms.now result }
 {
-    let Ok((counts, pass)) = gate.counts(rt, pass) else {
+    let Ok(Served { reply, pass }) = gate.counts(rt, pass) else {
         fail(rt, "counts")
     };
-    expects(rt, counts.accepted == 1, "these counts");
+    expects(rt, reply.accepted == 1, "these counts");
     let out_of_turn = OfferFault::OutOfTurn { expected: 1 };
     let (pass, back) = refuse_at(rt, alloc, terms, gate, pass, (1, 0), out_of_turn);
     expects(rt, is_offer(back, 1, 0, "c1"), "the offer");
@@ -48,6 +48,7 @@ fn met_calls<V: SerialGate + Send + Drop>(
     lock: TicketLock<V>,
     pass: Pass<V>,
 )
+    requires any_order { terms.now.in_order ≡ false }
     requires own { IsPassOf lock pass }
     requires terms { (V.shown (pass_knows pass).seen).terms ≡ terms.now }
 {
@@ -64,7 +65,9 @@ fn met_calls<V: SerialGate + Send + Drop>(
     let _one = find_stopped(rt, terms, &gate, one);
 }
 
-pub fn meet_once(rt: &(impl Abort + Wait), alloc: Global, terms: &Terms) {
+pub fn meet_once(rt: &(impl Abort + Wait), alloc: Global, terms: &Terms)
+    requires any_order { terms.now.in_order ≡ false }
+{
     let (lock, pass) = by_tickets(rt, alloc, terms);
     met_calls(rt, alloc, terms, lock, pass)
 }
@@ -86,7 +89,7 @@ fn refuse_worn<G: Gate>(rt: &impl Wait, gate: &G, pass: G::Pass)
     requires own { G.has_pass gate.now pass }
     requires worn { G.is_worn pass }
 {
-    let Err((_, _pass)) = gate.counts(rt, pass) else {
+    let Err(_worn) = gate.counts(rt, pass) else {
         unreachable!()
     };
 }
@@ -102,10 +105,10 @@ fn meet_worn<V: SerialGate + Send + Drop>(
 {
     let gate = LockedGate::over(lock);
     let (one, other) = gate.split(pass);
-    let Ok((_, one)) = gate.counts(rt, one) else {
+    let Ok(Served { pass: one, .. }) = gate.counts(rt, one) else {
         fail(rt, "the last ticket")
     };
-    let Err((_, one)) = gate.counts(rt, one) else {
+    let Err(WornOut { pass: one, .. }) = gate.counts(rt, one) else {
         fail(rt, "no ticket")
     };
     let (one, other) = gate.meet(one, other);

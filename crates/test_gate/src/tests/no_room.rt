@@ -1,6 +1,6 @@
 //! Calls that enlarge a full journal, on a sequential gate and on a shared one, so that one of the
 //! allocations that the tests refuse is that of the journal.
-ghost use Rattle.std.specs.Prelude.{◌≡◌};
+ghost use Rattle.std.specs.Prelude.{◌≡◌, false};
 ghost use Rattle.test_gate.specs.Words.{IsCaller};
 
 use super::events::has_journal;
@@ -53,6 +53,7 @@ fn full_gate<'t>(
     terms: &'t Terms<'t>,
     third: (usize, usize),
 ) -> GateState<'t>
+    requires any_order { terms.now.in_order ≡ false }
     ensures { result.terms ≡ terms.now }
 {
     let (provider, place) = third;
@@ -65,7 +66,9 @@ fn full_gate<'t>(
 }
 
 // Makes the call on a sequential gate.
-fn call_alone(rt: &impl Abort, alloc: Global, terms: &Terms, call: Call) {
+fn call_alone(rt: &impl Abort, alloc: Global, terms: &Terms, call: Call)
+    requires any_order { terms.now.in_order ≡ false }
+{
     let mut gate = full_gate(rt, alloc, terms, call.third());
     read_all(rt, alloc, terms, 3, 0);
     match call {
@@ -110,6 +113,7 @@ fn call_over<S: Section + Drop>(
 where
     S::Value: SerialGate + Drop,
     S::Pass: Send + Drop,
+    requires any_order { terms.now.in_order ≡ false }
     requires own { S.has_pass lock pass }
     requires terms { (S.Value.shown (S.seen pass)).terms ≡ terms.now }
 {
@@ -120,7 +124,9 @@ where
 }
 
 // Makes the call on a gate in a spin lock.
-fn call_locked(rt: &(impl Abort + Wait), alloc: Global, terms: &Terms, call: Call) {
+fn call_locked(rt: &(impl Abort + Wait), alloc: Global, terms: &Terms, call: Call)
+    requires any_order { terms.now.in_order ≡ false }
+{
     let third = call.third();
     let (lock, pass) = match SpinLock::new(alloc, full_gate(rt, alloc, terms, third)) {
         Ok(made) => made,
@@ -132,7 +138,9 @@ fn call_locked(rt: &(impl Abort + Wait), alloc: Global, terms: &Terms, call: Cal
     call_over(rt, alloc, terms, lock, pass, call)
 }
 
-pub fn full_calls(rt: &(impl Abort + Wait), alloc: Global, terms: &Terms) {
+pub fn full_calls(rt: &(impl Abort + Wait), alloc: Global, terms: &Terms)
+    requires any_order { terms.now.in_order ≡ false }
+{
     for call in [Call::End, Call::Take, Call::FindNothing] {
         call_alone(rt, alloc, terms, call);
         call_locked(rt, alloc, terms, call);

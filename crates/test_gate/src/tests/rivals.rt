@@ -8,7 +8,7 @@ ghost use Rattle.test_gate.specs.Words.{IsCaller};
 use super::filing::{offer_at, plan_of, terms_of};
 use super::locks::by_tickets;
 use super::{expects, fail};
-use claim_gate::{Event, Gate, LockedGate, Offer, OfferFault, SerialGate, Terms};
+use claim_gate::{Event, Gate, LockedGate, Offer, OfferFault, SerialGate, Served, Terms};
 use std::alloc::Global;
 use std::process::Abort;
 use std::sync::Wait;
@@ -70,6 +70,14 @@ fn is_accept(event: &Event, wanted: usize) -> bool {
     matches!(event, Event::Accept { provider: 1, place } if *place == wanted)
 }
 
+// Returns the place of the fault.
+fn place_expected(rt: &impl Abort, fault: OfferFault) -> usize {
+    match fault {
+        OfferFault::OutOfTurn { expected } => expected,
+        _ => fail(rt, "an accepted claim, or a later place"),
+    }
+}
+
 // Offers a claim. Returns the place of the next claim to offer.
 #[tactic(auto, using(crate::proofs::Order::any_order))]
 fn offer_next<R: Wait + Abort, G: Gate>(
@@ -82,12 +90,11 @@ fn offer_next<R: Wait + Abort, G: Gate>(
 ) -> (usize, G::Pass)
     requires caller { IsCaller (G.has_pass gate.now) G.known terms.now pass }
     requires filed { ForTerms terms.now (λ T. IsFiled T offer) }
-    requires any_order { terms.now.in_order ≡ false }
     ensures caller { IsCaller (G.has_pass gate.now) G.known terms.now result.1 }
 {
     let _plan = terms.plan();
     let place = offer.place;
-    let Ok((reply, pass)) = gate.offer(rt, pass, offer) else {
+    let Ok(Served { reply, pass }) = gate.offer(rt, pass, offer) else {
         fail(rt, "a reply")
     };
     match reply {
@@ -95,8 +102,7 @@ fn offer_next<R: Wait + Abort, G: Gate>(
             reported.note(accepted.position, place);
             (place.saturating_add(1), pass)
         }
-        Err((OfferFault::OutOfTurn { expected }, _)) => (expected, pass),
-        Err(_) => fail(rt, "an accepted claim, or a later place"),
+        Err(refused) => (place_expected(rt, refused.fault), pass),
     }
 }
 
@@ -177,6 +183,7 @@ fn rivals_over<S: Section + Drop + Sync, R: Threads + Wait + Abort + Sync>(
 where
     S::Value: SerialGate + Drop + Send + Sync,
     S::Pass: Send + Drop,
+    requires any_order { terms.now.in_order ≡ false }
     requires own { S.has_pass lock pass }
     requires terms { (S.Value.shown (S.seen pass)).terms ≡ terms.now }
 {
@@ -191,7 +198,9 @@ where
     drop(gate);
 }
 
-fn rivals<R: Threads + Wait + Abort + Sync>(rt: &R, alloc: Global, terms: &Terms) {
+fn rivals<R: Threads + Wait + Abort + Sync>(rt: &R, alloc: Global, terms: &Terms)
+    requires any_order { terms.now.in_order ≡ false }
+{
     let (lock, pass) = by_tickets(rt, alloc, terms);
     rivals_over(rt, alloc, terms, lock, pass);
 }

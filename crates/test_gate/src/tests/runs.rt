@@ -1,5 +1,6 @@
 //! The runs of the tests: each makes its calls under the terms of a plan and of files, which are
 //! given as texts.
+ghost use Rattle.std.specs.Prelude.{◌≡◌, false};
 
 use super::families::family_calls;
 use super::filing::{plan_of, terms_of};
@@ -8,6 +9,7 @@ use super::in_turn::{by_a_spin_lock, by_a_ticket_lock};
 use super::last_ticket::{few_tickets, two_tickets};
 use super::meeting::{meet_once, meet_without};
 use super::no_room::full_calls;
+use super::own_gate::own_calls;
 use super::worked::{closed_calls, copy_calls, end_again, end_calls, stop_calls, turn_calls};
 use super::{admit_none, begin_calls, stop_none};
 use claim_gate::Terms;
@@ -36,10 +38,13 @@ pub enum Calls {
     Meet,
     MeetWithoutTicket,
     FillJournals,
+    CallOwnGate,
 }
 
 impl Calls {
-    fn make(self, rt: &(impl Abort + Wait), alloc: Global, terms: &Terms) {
+    fn make(self, rt: &(impl Abort + Wait), alloc: Global, terms: &Terms)
+        requires any_order { terms.now.in_order ≡ false }
+    {
         match self {
             Calls::Begin => begin_calls(rt, alloc, terms),
             Calls::AdmitNone => admit_none(rt, alloc, terms),
@@ -59,6 +64,7 @@ impl Calls {
             Calls::Meet => meet_once(rt, alloc, terms),
             Calls::MeetWithoutTicket => meet_without(rt, alloc, terms),
             Calls::FillJournals => full_calls(rt, alloc, terms),
+            Calls::CallOwnGate => own_calls(rt, alloc, terms),
         }
     }
 }

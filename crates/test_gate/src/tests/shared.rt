@@ -12,7 +12,7 @@ use super::calls::{decide_job, is_accepted, is_recorded, work_of};
 use super::filing::offer_at;
 use super::{expects, fail, is_nothing_ready, is_stopped};
 use claim_gate::{
-    BoxedOutcome, Counts, EndFault, FinishFault, Gate, Job, Offer, OfferFault, Terms,
+    BoxedOutcome, Counts, EndFault, FinishFault, Gate, Job, Offer, OfferFault, Served, Terms,
 };
 use std::alloc::Global;
 use std::process::Abort;
@@ -35,7 +35,7 @@ pub fn accept_at<G: Gate>(
 {
     let (provider, place) = filed;
     let claim = offer_at(rt, alloc, terms, provider, place);
-    let (reply, pass) = offer(rt, terms, gate, pass, claim, before);
+    let Served { reply, pass } = offer(rt, terms, gate, pass, claim, before);
     expects(rt, is_accepted(reply, position), "an accepted claim");
     pass
 }
@@ -56,12 +56,12 @@ pub fn refuse_at<G: Gate>(
 {
     let (provider, place) = filed;
     let claim = offer_at(rt, alloc, terms, provider, place);
-    let (reply, pass) = offer_once(rt, terms, gate, pass, claim);
+    let Served { reply, pass } = offer_once(rt, terms, gate, pass, claim);
     match reply {
         Ok(_) => fail(rt, "a refusal"),
-        Err((fault, back)) => {
-            expects(rt, fault == wanted, "this fault");
-            (pass, back)
+        Err(refused) => {
+            expects(rt, refused.fault == wanted, "this fault");
+            (pass, refused.value)
         }
     }
 }
@@ -80,7 +80,7 @@ pub fn take_job<G: Gate>(
     ensures leads { LeadsTo (G.known pass).seen (G.known result.0).seen }
     ensures at_work { IsAtWork (G.known result.0).seen result.1 }
 {
-    let (reply, pass) = take(rt, terms, gate, pass, before);
+    let Served { reply, pass } = take(rt, terms, gate, pass, before);
     let job = work_of(rt, reply);
     expects(rt, job.position == position, "the job's position");
     (pass, job)
@@ -98,7 +98,7 @@ pub fn find_nothing<G: Gate>(
     ensures caller { IsCaller (G.has_pass gate.now) G.known terms.now result }
     ensures leads { LeadsTo (G.known pass).seen (G.known result).seen }
 {
-    let (reply, pass) = take(rt, terms, gate, pass, before);
+    let Served { reply, pass } = take(rt, terms, gate, pass, before);
     expects(rt, is_nothing_ready(reply), "nothing ready");
     pass
 }
@@ -119,7 +119,7 @@ pub fn record<G: Gate>(
     ensures leads { LeadsTo (G.known pass).seen (G.known result).seen }
 {
     let outcome = decide_job(rt, alloc, terms, &job);
-    let (reply, pass) = finish(rt, terms, gate, pass, job, outcome, before);
+    let Served { reply, pass } = finish(rt, terms, gate, pass, job, outcome, before);
     expects(rt, is_recorded(reply), "a recorded outcome");
     pass
 }
@@ -140,12 +140,12 @@ pub fn refuse_outcome<G: Gate>(
     ensures leads { LeadsTo (G.known pass).seen (G.known result.0).seen }
 {
     let outcome = decide_job(rt, alloc, terms, &job);
-    let (reply, pass) = finish_once(rt, terms, gate, pass, job, outcome);
+    let Served { reply, pass } = finish_once(rt, terms, gate, pass, job, outcome);
     match reply {
         Ok(_) => fail(rt, "a refusal"),
-        Err((fault, job, outcome)) => {
-            expects(rt, fault == wanted, "this fault");
-            (pass, job, outcome)
+        Err(refused) => {
+            expects(rt, refused.fault == wanted, "this fault");
+            (pass, refused.value.job, refused.value.outcome)
         }
     }
 }
@@ -165,7 +165,7 @@ pub fn refuse_end<G: Gate>(
     ensures caller { IsCaller (G.has_pass gate.now) G.known terms.now result }
     ensures leads { LeadsTo (G.known pass).seen (G.known result).seen }
 {
-    let (reply, pass) = end_once(rt, terms, gate, pass, provider, count);
+    let Served { reply, pass } = end_once(rt, terms, gate, pass, provider, count);
     expects(rt, reply.err() == Some(wanted), "this fault");
     pass
 }
@@ -181,7 +181,7 @@ pub fn find_stopped<G: Gate>(
     ensures caller { IsCaller (G.has_pass gate.now) G.known terms.now result }
     ensures leads { LeadsTo (G.known pass).seen (G.known result).seen }
 {
-    let (reply, pass) = take_once(rt, terms, gate, pass);
+    let Served { reply, pass } = take_once(rt, terms, gate, pass);
     expects(rt, is_stopped(reply), "a stopped gate");
     pass
 }

@@ -1,6 +1,6 @@
 //! Calls of a sequential gate that were worked out by hand, each made also with an allocation
 //! refused. Amounts are in ten-thousandths of the currency unit.
-ghost use Rattle.std.specs.Prelude.{◌≡◌};
+ghost use Rattle.std.specs.Prelude.{◌≡◌, false};
 ghost use Rattle.test_gate.specs.Words.{IsAtWork, WorkStays};
 
 use super::calls::{
@@ -66,6 +66,7 @@ pub fn is_back(job: Job, outcome: BoxedOutcome, position: usize, id: &str) -> bo
 
 // A gate that has accepted the first claim of the first provider.
 fn begin<'t>(rt: &impl Abort, alloc: Global, terms: &'t Terms<'t>) -> GateState<'t>
+    requires any_order { terms.now.in_order ≡ false }
     ensures { result.terms ≡ terms.now }
 {
     let mut gate = gate_of(rt, alloc, terms);
@@ -80,6 +81,7 @@ fn take_first<'t>(
     terms: &'t Terms<'t>,
     gate: &mut GateState<'t>,
 ) -> Job
+    requires any_order { terms.now.in_order ≡ false }
     requires terms { gate.old.terms ≡ terms.now }
     ensures terms { gate.new.terms ≡ terms.now }
     ensures at_work { IsAtWork gate.new result }
@@ -94,6 +96,7 @@ fn take_first<'t>(
 
 // The second claim of the member is not ready before the first one is decided.
 fn second_waits<'t>(rt: &impl Abort, alloc: Global, terms: &'t Terms<'t>, gate: &mut GateState<'t>)
+    requires any_order { terms.now.in_order ≡ false }
     requires terms { gate.old.terms ≡ terms.now }
     ensures terms { gate.new.terms ≡ terms.now }
     ensures stays { WorkStays gate.old gate.new }
@@ -105,6 +108,7 @@ fn second_waits<'t>(rt: &impl Abort, alloc: Global, terms: &'t Terms<'t>, gate: 
 
 // A claim of another member is ready at once.
 fn take_other<'t>(rt: &impl Abort, alloc: Global, terms: &'t Terms<'t>, gate: &mut GateState<'t>)
+    requires any_order { terms.now.in_order ≡ false }
     requires terms { gate.old.terms ≡ terms.now }
     ensures terms { gate.new.terms ≡ terms.now }
     ensures stays { WorkStays gate.old gate.new }
@@ -146,6 +150,7 @@ fn calls_in_turn<'t>(
     terms: &'t Terms<'t>,
     gate: &mut GateState<'t>,
 ) -> Job
+    requires any_order { terms.now.in_order ≡ false }
     requires terms { gate.old.terms ≡ terms.now }
     ensures terms { gate.new.terms ≡ terms.now }
     ensures at_work { IsAtWork gate.new result }
@@ -186,7 +191,9 @@ fn is_given_back<'t>(gate: GateState<'t>, terms: &'t Terms<'t>) -> bool
 }
 
 // The worked calls leave an unfinished run, from which no batch is made.
-pub fn turn_calls(rt: &impl Abort, alloc: Global, terms: &Terms) {
+pub fn turn_calls(rt: &impl Abort, alloc: Global, terms: &Terms)
+    requires any_order { terms.now.in_order ≡ false }
+{
     let mut gate = begin(rt, alloc, terms);
     drop(calls_in_turn(rt, alloc, terms, &mut gate));
     end_early(rt, alloc, terms, &mut gate);
@@ -227,7 +234,9 @@ fn decide_copy<'t>(
     expects(rt, is_as_far(gate, counts(1, 0, 1, false)), "these counts");
 }
 
-pub fn copy_calls(rt: &impl Abort, alloc: Global, terms: &Terms) {
+pub fn copy_calls(rt: &impl Abort, alloc: Global, terms: &Terms)
+    requires any_order { terms.now.in_order ≡ false }
+{
     let mut gate = begin(rt, alloc, terms);
     let job = take_first(rt, alloc, terms, &mut gate);
     decide_copy(rt, alloc, terms, &mut gate, job);
@@ -256,6 +265,7 @@ fn refuse_intake<'t>(
     place: usize,
     faults: (OfferFault, EndFault),
 ) -> Offer
+    requires any_order { terms.now.in_order ≡ false }
     requires terms { gate.old.terms ≡ terms.now }
     ensures terms { gate.new.terms ≡ terms.now }
     ensures stays { WorkStays gate.old gate.new }
@@ -275,6 +285,7 @@ fn call_stopped<'t>(
     gate: &mut GateState<'t>,
     job: Job,
 )
+    requires any_order { terms.now.in_order ≡ false }
     requires terms { gate.old.terms ≡ terms.now }
     requires at_work { IsAtWork gate.old job }
     ensures { gate.new.terms ≡ terms.now }
@@ -290,7 +301,9 @@ fn call_stopped<'t>(
 }
 
 // The worked calls, a stop, and each call again.
-pub fn stop_calls(rt: &impl Abort, alloc: Global, terms: &Terms) {
+pub fn stop_calls(rt: &impl Abort, alloc: Global, terms: &Terms)
+    requires any_order { terms.now.in_order ≡ false }
+{
     let mut gate = begin(rt, alloc, terms);
     let job = calls_in_turn(rt, alloc, terms, &mut gate);
     halt(terms, &mut gate);
@@ -314,6 +327,7 @@ fn a_stopped_gate_refuses_each_call_though_memory_is_refused(rt: HostRuntime) {
 
 // Accepts the only claim of the first provider, and ends the provider.
 fn end_first<'t>(rt: &impl Abort, alloc: Global, terms: &'t Terms<'t>) -> GateState<'t>
+    requires any_order { terms.now.in_order ≡ false }
     ensures { result.terms ≡ terms.now }
 {
     let mut gate = begin(rt, alloc, terms);
@@ -331,7 +345,9 @@ fn decide_only<'t>(rt: &impl Abort, alloc: Global, terms: &'t Terms<'t>, gate: &
 }
 
 // A run of a single claim up to its end.
-pub fn end_calls(rt: &impl Abort, alloc: Global, terms: &Terms) {
+pub fn end_calls(rt: &impl Abort, alloc: Global, terms: &Terms)
+    requires any_order { terms.now.in_order ≡ false }
+{
     let mut gate = end_first(rt, alloc, terms);
     expects(rt, has_journal(&gate, b"A10E1 C  "), "this journal");
     expects(rt, is_as_far(&gate, counts(1, 1, 0, true)), "these counts");
@@ -354,7 +370,9 @@ fn the_last_end_closes_though_memory_is_refused(rt: HostRuntime) {
 }
 
 // A provider can end only once, even while another provider has not ended.
-pub fn end_again(rt: &impl Abort, alloc: Global, terms: &Terms) {
+pub fn end_again(rt: &impl Abort, alloc: Global, terms: &Terms)
+    requires any_order { terms.now.in_order ≡ false }
+{
     let mut gate = end_first(rt, alloc, terms);
     read_all(rt, alloc, terms, 1, 1);
     refuse_end(rt, terms, &mut gate, 1, 1, EndFault::AlreadyEnded);
@@ -377,7 +395,9 @@ fn a_provider_ends_once(rt: HostRuntime) {
 }
 
 // Makes each call on a gate that admits no claim.
-pub fn closed_calls(rt: &impl Abort, alloc: Global, terms: &Terms) {
+pub fn closed_calls(rt: &impl Abort, alloc: Global, terms: &Terms)
+    requires any_order { terms.now.in_order ≡ false }
+{
     let mut gate = gate_of(rt, alloc, terms);
     let faults = (OfferFault::Closed, EndFault::Closed);
     let back = refuse_intake(rt, alloc, terms, &mut gate, 0, faults);
