@@ -3,27 +3,25 @@
 //!
 //! Plans, claims and outcomes are dropped explicitly: for the prover, `drop` is one call, but the
 //! end of a scope is one step for each part of the value.
-ghost use Rattle.std.specs.Prelude.{◌≡◌};
 
+mod adjudicators;
+mod claims;
 mod examples;
 mod families;
+mod host_valuer;
 mod input_classes;
 mod plans;
 
-use crate::ending::{expects, fail};
-use dtable::{Plan, PlanFault, Sequence, Valuer, read_plan};
+use crate::ending::expects;
+use dtable::{Plan, PlanFault, Sequence, read_plan};
 use examples::{
-    Example, MOST, after_a_pended, before_capped, capped_example, first, naming, paid_examples,
-    rates, scored_examples, second, treated_examples, uncapped_example, unpaid_examples,
-    written_examples,
+    Example, MOST, capped_example, first, paid_examples, rates, scored_examples, second,
+    treated_examples, uncapped_example, unpaid_examples, written_examples,
 };
 use feel_tests::{Day, Kind, PlainFault, TEXT_LIMIT_BYTES, Text, Value, read_plain};
 use fixpoint::Fixed;
-use plans::{chained_plan, faulty_plan, flat_by_year, flat_plan, named_plan, open, rate_of_claim};
-use settlement::{
-    Acc, Adjudicator, Claim, Money, Outcome, Remarks, Role, Verdict, account_year, after, decide,
-    fields_of,
-};
+use plans::{chained_plan, faulty_plan, flat_plan, open, rate_of_claim};
+use settlement::{Acc, Claim, Money, Outcome, Remarks, Role, Verdict, after, decide, fields_of};
 use std::alloc::{AllocError, Global};
 use std::fmt::Write;
 use std::process::Abort;
@@ -129,26 +127,6 @@ fn decided_once(
     assert!(rt; plan.roles().is_some());
     assert!(rt; claim.is_of(plan));
     decide(alloc, plan, claim, *before)
-}
-
-// Returns the outcome of one more claim by the same adjudicator.
-fn decided_next<V: Valuer>(
-    rt: &impl Abort,
-    alloc: Global,
-    desk: &mut Adjudicator<V>,
-    plan: &Plan,
-    example: &Example,
-) -> Result<Outcome, AllocError>
-    requires { desk.old ≡ plan.now }
-    ensures { desk.new ≡ desk.old }
-{
-    let (fields, billed, before, _) = example;
-    let claim = claim(rt, alloc, plan, *billed, fields);
-    assert!(rt; plan.roles().is_some());
-    assert!(rt; claim.is_of(plan));
-    let outcome = desk.decide(alloc, &claim, acc(rt, *before));
-    drop(claim);
-    outcome
 }
 
 // Writes an outcome as one line: its verdict, amounts and remarks, and the accumulators after it.
@@ -304,83 +282,6 @@ fn tables_in_a_chain_though_memory_is_refused(rt: HostRuntime) {
     );
 }
 
-fn desk<'v>(rt: &impl Abort, alloc: Global, plan: &'v Plan) -> Adjudicator<'v, Plan>
-    ensures { result ≡ plan.now }
-{
-    match Adjudicator::new(alloc, plan) {
-        Ok(desk) => desk,
-        Err(_) => Adjudicator::new(alloc, plan).expect(rt, "memory for an adjudicator"),
-    }
-}
-
-fn settles_next<V: Valuer>(
-    rt: &impl Abort,
-    alloc: Global,
-    desk: &mut Adjudicator<V>,
-    plan: &Plan,
-    example: &Example,
-)
-    requires { desk.old ≡ plan.now }
-    ensures { desk.new ≡ desk.old }
-{
-    let outcome = match decided_next(rt, alloc, desk, plan, example) {
-        Ok(outcome) => outcome,
-        Err(_) => {
-            decided_next(rt, alloc, desk, plan, example).expect(rt, "memory for an outcome")
-        }
-    };
-    is_reported(rt, alloc, outcome, example);
-}
-
-fn settles_both(rt: &impl Abort, alloc: Global, plan: &Plan, examples: &[Example]) {
-    let [first, second] = examples else {
-        fail(rt, "two claims")
-    };
-    let mut desk = desk(rt, alloc, plan);
-    settles_next(rt, alloc, &mut desk, plan, first);
-    settles_next(rt, alloc, &mut desk, plan, second);
-    drop(desk);
-}
-
-fn decides_both(rt: &impl Abort, alloc: Global, text: &str, examples: &[Example]) {
-    let plan = plan(rt, alloc, text);
-    settles_both(rt, alloc, &plan, examples);
-    drop(plan);
-}
-
-#[test]
-fn one_adjudicator_decides_claims_of_two_codes(rt: HostRuntime) {
-    decides_both(&rt, rt.alloc(), health_plan(), &[first(), second()]);
-}
-
-#[test]
-fn one_adjudicator_decides_after_a_pended_claim(rt: HostRuntime) {
-    decides_both(&rt, rt.alloc(), health_plan(), after_a_pended());
-}
-
-#[test]
-fn what_each_claim_and_each_member_has(rt: HostRuntime) {
-    decides_both(&rt, rt.alloc(), named_plan(), naming());
-}
-
-// A decision that runs out of memory and is not repeated must not affect the decision of the next
-// claim.
-fn settles_after_a_refusal(rt: &impl Abort, alloc: Global, plan: &Plan) {
-    let mut desk = desk(rt, alloc, plan);
-    if let Ok(outcome) = decided_next(rt, alloc, &mut desk, plan, &before_capped()) {
-        is_reported(rt, alloc, outcome, &before_capped());
-    }
-    settles_next(rt, alloc, &mut desk, plan, &capped_example());
-    drop(desk);
-}
-
-#[test]
-fn an_adjudicator_decides_though_memory_is_refused(rt: HostRuntime) {
-    let plan = plan(&rt, rt.alloc(), chained_plan());
-    settles_after_a_refusal(&rt, rt.alloc(), &plan);
-    drop(plan);
-}
-
 fn some_paid(rt: &impl Abort) -> Outcome {
     Outcome {
         verdict: Verdict::Paid,
@@ -431,86 +332,6 @@ fn an_outcome_may_cross_threads(rt: HostRuntime) {
     let outcome = some_paid(&rt);
     may_cross_threads(&outcome);
     drop(outcome);
-}
-
-// The claim fits its own plan and not another one, which has more fields.
-fn fits_one(rt: &impl Abort, alloc: Global, plan: &Plan) {
-    let claim = claim(rt, alloc, plan, 100, &["A"]);
-    expects(rt, claim.is_of(plan), "a claim of its plan");
-    fits_not(rt, alloc, claim);
-}
-
-fn fits_not(rt: &impl Abort, alloc: Global, claim: Claim) {
-    let more = has_more(plan(rt, alloc, open()), claim);
-    expects(rt, more, "fields that the claim hasn't");
-}
-
-fn has_more(open: Plan, claim: Claim) -> bool {
-    let more = fields_of(&open).len() == 6 && !claim.is_of(&open);
-    drop(claim);
-    drop(open);
-    more
-}
-
-#[test]
-fn claims_have_the_fields_of_their_plan(rt: HostRuntime) {
-    let health = plan(&rt, rt.alloc(), health_plan());
-    expects(&rt, fields_of(&health).len() == 1, "one field");
-    fits_one(&rt, rt.alloc(), &health);
-    drop(health);
-}
-
-// Returns the benefit year of a claim whose service is on 5 January 2024.
-fn year_under(rt: &impl Abort, alloc: Global, text: &str) -> u16 {
-    let plan = plan(rt, alloc, text);
-    let claim = claim(rt, alloc, &plan, 100, &[]);
-    let year = account_year(&plan, &claim);
-    drop(claim);
-    drop(plan);
-    year
-}
-
-#[test]
-fn accumulators_are_kept_by_the_year_under_version_2(rt: HostRuntime) {
-    let year = year_under(&rt, rt.alloc(), flat_plan());
-    expects(&rt, year == 0, "no year");
-    let year = year_under(&rt, rt.alloc(), flat_by_year());
-    expects(&rt, year == 2024, "the year of service");
-}
-
-fn copy(rt: &impl Abort, alloc: Global, claim: &Claim) -> Claim {
-    match claim.duplicate(alloc) {
-        Ok(copy) => copy,
-        Err(_) => claim.duplicate(alloc).expect(rt, "memory for a copy"),
-    }
-}
-
-// Copies a claim and compares the copy.
-fn copies(rt: &impl Abort, alloc: Global, text: &str) {
-    let plan = plan(rt, alloc, text);
-    let claim = claim(rt, alloc, &plan, 100, &["A"]);
-    let copied = copy(rt, alloc, &claim);
-    expects(rt, is_that_claim(&plan, copied), "the same claim");
-    drop(claim);
-    drop(plan);
-}
-
-fn is_that_claim(plan: &Plan, claim: Claim) -> bool {
-    let same = claim.is_of(plan) && has_its_parts(&claim);
-    drop(claim);
-    same
-}
-
-fn has_its_parts(claim: &Claim) -> bool {
-    claim.id.as_str() == "c1"
-        && claim.member.as_str() == "M1"
-        && claim.service.epoch_day() == 19_727
-        && cents(claim.billed) == 100
-}
-
-#[test]
-fn a_copy_of_a_claim_though_memory_is_refused(rt: HostRuntime) {
-    copies(&rt, rt.alloc(), health_plan());
 }
 
 #[test]

@@ -1,8 +1,9 @@
 //! Tests of settlements under plans that keep accumulators for families. Amounts are in cents.
 
+use super::claims::copies;
 use super::examples::MOST;
 use super::plans::{families_named, families_open};
-use super::{claim, copies, decide_claim, money, outcome_text, plan, some_paid};
+use super::{claim, decide_claim, money, outcome_text, plan, some_paid};
 use crate::ending::expects;
 use dtable::Plan;
 use settlement::{Acc, Claim, Outcome, Role, after, fields_of};

@@ -1,10 +1,12 @@
-//! Tests of an evaluator without input classes.
+//! Tests of evaluators without input classes, and with one.
+ghost use Rattle.std.specs.Prelude.{◌≡◌, []};
 
+use super::adjudicators::settles_next;
 use super::examples::{Example, written_examples};
+use super::plan;
 use super::plans::flat_plan;
-use super::{plan, settles_next};
 use crate::ending::{expects, fail};
-use dtable::{Env, Inputs, Plan, Valuer};
+use dtable::{Env, InputClasses, Inputs, Plan, Valuer};
 use faults::Fault;
 use settlement::Adjudicator;
 use std::alloc::Global;
@@ -24,8 +26,6 @@ struct Unclassed<'p> {
 impl<'p> Valuer for Unclassed<'p> {
     ghost plan_of = { λ unclassed. unclassed.plan.now };
 
-    ghost in_class = { λ unclassed given input_class. ⊥ };
-
     fn plan(&self) -> &Plan {
         self.plan
     }
@@ -33,6 +33,10 @@ impl<'p> Valuer for Unclassed<'p> {
     fn value<'a>(&'a self, alloc: Global, inputs: &Inputs) -> Result<Env<'a>, Fault> {
         self.plan.value(alloc, inputs)
     }
+}
+
+impl<'p> InputClasses for Unclassed<'p> {
+    ghost in_class = { λ unclassed given input_class. ⊥ };
 
     fn input_class(&self, _inputs: &Inputs) -> Option<u64> {
         self.asked.set(self.asked.get().saturating_add(1));
@@ -68,5 +72,66 @@ fn an_adjudicator_gives_up_classes_that_have_no_number(rt: HostRuntime) {
         "1024 lookups of input classes",
     );
     drop(unclassed);
+    drop(plan);
+}
+
+/// An evaluator whose inputs are all in one class if its plan has no tables, and which counts its
+/// evaluations.
+#[derive(Drop)]
+struct Classed<'p> {
+    plan: &'p Plan,
+    valued: Cell<u32>,
+}
+
+impl<'p> Valuer for Classed<'p> {
+    ghost plan_of = { λ classed. classed.plan.now };
+
+    fn plan(&self) -> &Plan {
+        self.plan
+    }
+
+    fn value<'a>(&'a self, alloc: Global, inputs: &Inputs) -> Result<Env<'a>, Fault> {
+        self.valued.set(self.valued.get().saturating_add(1));
+        self.plan.value(alloc, inputs)
+    }
+}
+
+impl<'p> InputClasses for Classed<'p> {
+    ghost in_class = { λ classed given input_class. classed.plan.now.tables ≡ [] };
+
+    fn input_class(&self, _inputs: &Inputs) -> Option<u64> {
+        if self.plan.tables().is_empty() {
+            Some(0)
+        } else {
+            None
+        }
+    }
+}
+
+// Decides the claim twice by one adjudicator.
+fn settles_twice(rt: &impl Abort, alloc: Global, classed: &Classed, example: &Example) {
+    let Ok(mut desk) = Adjudicator::new(alloc, classed) else {
+        fail(rt, "memory for an adjudicator")
+    };
+    settles_next(rt, alloc, &mut desk, classed.plan, example);
+    settles_next(rt, alloc, &mut desk, classed.plan, example);
+    drop(desk);
+}
+
+/// No clause asks that a determination is looked up: an adjudicator may also evaluate the tables
+/// for each claim.
+#[test]
+fn claims_of_one_class_are_evaluated_once(rt: HostRuntime) {
+    let plan = plan(&rt, rt.alloc(), flat_plan());
+    let classed = Classed {
+        plan: &plan,
+        valued: Cell::new(0),
+    };
+    let [example, ..] = written_examples() else {
+        fail(&rt, "a claim")
+    };
+    settles_twice(&rt, rt.alloc(), &classed, example);
+    expects(&rt, classed.valued.get() == 1, "one evaluation");
+    drop(classed);
     drop(plan);
 }

@@ -2,7 +2,7 @@ use Rattle.std.proofs.Common.{sym, subst, rules}
 use Rattle.std.specs.Option.{IsSome}
 use Rattle.dtable.specs.Plan.{PlanParts}
 use Rattle.settlement.specs.Claim.{IsClaimOf}
-use Rattle.test_settlement.proofs.settling.decided_next.Goals as goal
+use Rattle.test_settlement.proofs.settling.adjudicators.decided_next.Goals as goal
 
 pub decide-outcome-requires-clause-roles : goal.decide-outcome-requires-clause-roles
 decide-outcome-requires-clause-roles g c =

@@ -1,0 +1,94 @@
+//! An example of a host with a valuer of its own, which evaluates a plan's tables one by one.
+//! `settlement::decide` asks it for the plan and for the value of the tables, and for nothing else.
+ghost use Rattle.std.specs.Prelude.{[]};
+ghost use Rattle.dtable.specs.Environment.{answers_of};
+ghost use Rattle.dtable.specs.HitPolicy.{Gives};
+
+use super::examples::Example;
+use super::{acc, claim, is_reported, plan};
+use dtable::{Answers, AnswersByTable, Env, Inputs, Plan, Table, Valuer, table_value};
+use faults::Fault;
+use settlement::{Acc, Claim, Outcome, decide};
+use std::alloc::{AllocError, Global};
+use std::process::Abort;
+use test_fixtures::health_plan;
+
+/// The valuer of a host that has the plan.
+#[derive(Clone, Copy)]
+struct HostValuer<'p> {
+    plan: &'p Plan,
+}
+
+impl<'p> Valuer for HostValuer<'p> {
+    ghost plan_of = { λ host. host.plan.now };
+
+    fn plan(&self) -> &Plan {
+        self.plan
+    }
+
+    fn value<'a>(&'a self, alloc: Global, inputs: &Inputs) -> Result<Env<'a>, Fault> {
+        let answers = answers_of(alloc, inputs, self.plan.tables())?;
+        Ok(Env::new(self.plan.tables(), answers))
+    }
+}
+
+// Returns the answers of the tables, each by the answers before it, or the first fault.
+fn answers_of<'a>(
+    alloc: Global,
+    inputs: &Inputs,
+    tables: &[Table],
+) -> Result<AnswersByTable<'a>, Fault>
+    ensures { Gives (answers_of inputs.now [] tables.now) result }
+{
+    let mut answers = AnswersByTable::new(alloc);
+    for table in tables {
+        let next = table_value(alloc, inputs, answers.as_slice(), table)?;
+        answers.push(Answers::from_sequence(next))?;
+    }
+    Ok(answers)
+}
+
+// A claim under the health plan, of a member who has met the deductible and has paid 50.00. The fee
+// is 100.00, so that the billed 60.00 are allowed. The copay is 10.00, and the coinsurance is 20 %
+// of the other 50.00. Of these 20.00 the member pays 10.00, up to the maximum of 60.00, and the
+// plan pays 50.00.
+fn example() -> Example {
+    (
+        &["A"],
+        6_000,
+        (5_000, 5_000, 0),
+        "Paid 6000 0 1000 1000 1000 5000 MET, 5000 6000 5000",
+    )
+}
+
+// This call may be repeated.
+fn decided_by(
+    rt: &impl Abort,
+    alloc: Global,
+    host: &HostValuer,
+    claim: &Claim,
+    before: &Acc,
+) -> Result<Outcome, AllocError> {
+    assert!(rt; host.plan.roles().is_some());
+    assert!(rt; claim.is_of(host.plan));
+    decide(alloc, host, claim, *before)
+}
+
+fn settles_by(rt: &impl Abort, alloc: Global, host: &HostValuer, example: &Example) {
+    let (fields, billed, before, _) = example;
+    let claim = claim(rt, alloc, host.plan, *billed, fields);
+    let before = acc(rt, *before);
+    let outcome = match decided_by(rt, alloc, host, &claim, &before) {
+        Ok(outcome) => outcome,
+        Err(_) => decided_by(rt, alloc, host, &claim, &before).expect(rt, "memory for an outcome"),
+    };
+    is_reported(rt, alloc, outcome, example);
+    drop(claim);
+}
+
+#[test]
+fn a_host_values_its_plan_by_its_own(rt: HostRuntime) {
+    let plan = plan(&rt, rt.alloc(), health_plan());
+    settles_by(&rt, rt.alloc(), &HostValuer { plan: &plan }, &example());
+    drop(plan);
+}
