@@ -6,6 +6,7 @@ ghost use Rattle.cutplan.specs.Numbered.{IsTableNumber};
 mod alike;
 mod places;
 mod plans;
+mod wide_plans;
 
 use crate::answers::{is_text, plan_of};
 use crate::ending::{expects, fail};

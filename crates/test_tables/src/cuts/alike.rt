@@ -9,10 +9,11 @@ use super::plans::{
     allowed_codes, at_five, chain, codes, days, disjoint_plan, flag_and_code, ranked_plan,
     sixteen_regions, stretches, three_rules,
 };
+use super::wide_plans::{wide_codes, wide_days, wide_numbers};
 use crate::answers::{give, inputs_of, is_text, plan_of, write_line};
 use crate::ending::expects;
-use cutplan::CutPlan;
-use dtable::{AnswersByTable, Env, Inputs, Plan, Valuer};
+use cutplan::{CutPlan, RuleMask};
+use dtable::{AnswersByTable, Env, InputClasses, Inputs, Plan, Valuer};
 use std::alloc::{AllocError, Global};
 use std::process::Abort;
 use test_fixtures::health_plan;
@@ -364,9 +365,53 @@ fn masks_speak_of_allowed_values(rt: HostRuntime) {
     try_plan(&rt, rt.alloc(), days(), Tried::Matching(around_days()));
 }
 
+fn of_wide_codes() -> Literals {
+    &["\"C00\"", "\"C41\"", "\"C79\"", "\"C80\""]
+}
+
+fn of_wide_numbers() -> Literals {
+    &["0.9999", "1", "20.5", "40", "40.0001"]
+}
+
+fn of_wide_days() -> Literals {
+    &[
+        "date(\"2023-12-31\")",
+        "date(\"2024-01-01\")",
+        "date(\"2024-02-11\")",
+        "date(\"2024-12-31\")",
+    ]
+}
+
+/// No clause asks that the masks of a column are used: a table may also ask each rule.
+#[test]
+fn masks_are_used_in_columns_of_many_regions(rt: HostRuntime) {
+    try_plan(
+        &rt,
+        rt.alloc(),
+        wide_codes(),
+        Tried::Matching(of_wide_codes()),
+    );
+    try_plan(
+        &rt,
+        rt.alloc(),
+        wide_numbers(),
+        Tried::Matching(of_wide_numbers()),
+    );
+    try_plan(
+        &rt,
+        rt.alloc(),
+        wide_days(),
+        Tried::Matching(of_wide_days()),
+    );
+}
+
 // Returns whether the masks begin with these words.
-fn have_first_words(masks: &[[u64; 4]], words: &[u64]) -> bool {
-    masks.len() == words.len() && masks.iter().zip(words).all(|(mask, word)| mask[0] == *word)
+fn have_first_words(masks: &[RuleMask], words: &[u64]) -> bool {
+    masks.len() == words.len()
+        && masks
+            .iter()
+            .zip(words)
+            .all(|(mask, word)| mask.words()[0] == *word)
 }
 
 fn has_one_column(plan: &Plan) -> bool
