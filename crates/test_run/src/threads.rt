@@ -14,6 +14,7 @@ use test_fixtures::{balances, both_files, header, second_file};
 mod hostile;
 mod journals;
 mod later_files;
+mod many_claims;
 mod meeting;
 mod met;
 mod refusing;
@@ -236,6 +237,7 @@ enum Runs {
     UpToCutoffs,
     OfOtherCrews,
     OverHeaders,
+    OverManyClaims,
     ThoughRefused,
     OnGates(OnGates),
 }
@@ -264,6 +266,7 @@ fn check<R: Threads + Wait + Abort + Sync>(rt: &R, alloc: Global, runs: Runs) {
         Runs::UpToCutoffs => check_cutoffs(rt, alloc, &plan),
         Runs::OfOtherCrews => check_crews(rt, alloc, &plan),
         Runs::OverHeaders => check_headers(rt, alloc, &plan),
+        Runs::OverManyClaims => many_claims::check_runs(rt, alloc, &plan),
         Runs::ThoughRefused => check_refused(rt, alloc, &plan),
         Runs::OnGates(runs) => check_on_gates(rt, alloc, &plan, runs),
     }
@@ -309,6 +312,11 @@ fn a_run_refuses_no_worker_and_too_many(rt: HostRuntime) {
 #[test]
 fn a_run_over_a_header_alone(rt: HostRuntime) {
     check(&rt, rt.alloc(), Runs::OverHeaders);
+}
+
+#[test]
+fn runs_over_more_claims_than_a_turn_has(rt: HostRuntime) {
+    check(&rt, rt.alloc(), Runs::OverManyClaims);
 }
 
 #[test]

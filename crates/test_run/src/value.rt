@@ -9,10 +9,6 @@ use fixpoint::Out;
 use std::alloc::Global;
 use std::process::Abort;
 
-mod hit_policies;
-mod plan_faults;
-mod values;
-
 /// One table over one number.
 const PLAN: &str = "version = 1
 fields = [{name = \"x\", kind = \"number\"}]

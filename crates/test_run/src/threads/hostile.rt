@@ -4,10 +4,10 @@
 ghost use Rattle.std.specs.Prelude.{◌≡◌};
 
 use super::is_wanted_fault;
-use super::met::{start_watched, watched_from};
+use super::met::{boxed_gate, start_watched, watched_from};
 use super::watched::nothing;
 use crate::testing::{expects, expects_at};
-use claim_gate::{Gate, GateState, LockedGate, SerialGate, Terms};
+use claim_gate::{Gate, LockedGate, SerialGate, Terms};
 use crew::{RunFault, run_with};
 use std::alloc::Global;
 use std::process::Abort;
@@ -116,7 +116,7 @@ where
 
 // The run is stopped, or it succeeds if its caller learned before that it is over.
 fn check_third_caller<R: Threads + Wait + Abort + Sync>(rt: &R, alloc: Global, terms: &Terms) {
-    let state = GateState::new(alloc, terms).expect(rt, "a gate");
+    let state = boxed_gate(rt, alloc, terms);
     let (lock, pass) = TicketLock::new(alloc, state).expect(rt, "a lock");
     let fault = run_stopped_over(rt, alloc, terms, lock, pass);
     expects(

@@ -6,11 +6,12 @@ ghost use Rattle.claim_gate.specs.Terms.{ForTerms};
 ghost use Rattle.crew.specs.Sharing.{HasAccepted};
 
 use super::journals::comes_to;
+use super::met::boxed_gate;
 use super::outcomes_of_both;
 use super::watched::{WatchedGate, nothing};
 use crate::testing::{expects, fail};
 use claim_gate::{
-    BoxedClaim, Gate, GateState, LockedGate, Offer, SerialGate, Terms, claim_lists_exist,
+    BoxedClaim, Gate, LockedGate, Offer, SerialGate, Served, Terms, claim_lists_exist,
 };
 use crew::run_with;
 use intake_csv::{Row, given_row_has_the_claim, reader_begins_with_all_rows};
@@ -19,7 +20,7 @@ use std::alloc::Global;
 use std::process::Abort;
 use std::sync::Wait;
 use std::thread::Threads;
-use turn_lock::{Section, SpinLock};
+use turn_lock::{Section, TicketLock};
 
 // Offers the first provider's claim at a place, which must be accepted. Only claims of this
 // provider were accepted before, so its position is its place.
@@ -46,9 +47,10 @@ fn accept<R: Wait + Abort, G: Gate>(
         place,
         claim,
     };
-    let Ok((reply, pass)) = gate.offer(rt, pass, offered) else {
+    let Ok(served) = gate.offer(rt, pass, offered) else {
         fail(rt, "a reply")
     };
+    let Served { reply, pass } = served;
     match reply {
         Ok(accepted) => {
             expects(rt, accepted.position == place, "its position");
@@ -122,9 +124,9 @@ where
     }
 }
 
-/// Runs on such a gate with a spin lock.
+/// Runs on such a gate with a ticket lock.
 pub fn goes_on<R: Threads + Wait + Abort + Sync>(rt: &R, alloc: Global, terms: &Terms) {
-    let state = GateState::new(alloc, terms).expect(rt, "a gate");
-    let (lock, pass) = SpinLock::new(alloc, state).expect(rt, "a lock");
+    let state = boxed_gate(rt, alloc, terms);
+    let (lock, pass) = TicketLock::new(alloc, state).expect(rt, "a lock");
     run_later_files(rt, alloc, terms, lock, pass);
 }

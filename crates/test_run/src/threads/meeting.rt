@@ -1,7 +1,7 @@
 //! Calls that wait until another thread makes a call. They show that the work is not all done by
 //! one thread.
 
-use super::met::watched_spinning;
+use super::met::start_watched;
 use super::watched::nothing;
 use crate::testing::expects;
 use claim_gate::Terms;
@@ -14,7 +14,7 @@ use std::thread::Threads;
 pub fn check_workers<R: Threads + Wait + Abort + Sync>(rt: &R, alloc: Global, terms: &Terms) {
     let mut watch = nothing();
     watch.takes = 2;
-    let met = watched_spinning(rt, alloc, terms, 1, watch);
+    let met = start_watched(rt, alloc, terms, 1, watch);
     expects(rt, met.fault.is_none() && met.takes == 2, "no fault");
 }
 
@@ -22,7 +22,7 @@ pub fn check_workers<R: Threads + Wait + Abort + Sync>(rt: &R, alloc: Global, te
 pub fn check_intakes<R: Threads + Wait + Abort + Sync>(rt: &R, alloc: Global, terms: &Terms) {
     let mut watch = nothing();
     watch.offers = 2;
-    let met = watched_spinning(rt, alloc, terms, 1, watch);
+    let met = start_watched(rt, alloc, terms, 1, watch);
     expects(
         rt,
         met.fault.is_none() && met.offers == 2 && met.providers == 1 + 2,

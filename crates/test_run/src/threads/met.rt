@@ -80,7 +80,8 @@ where
     }
 }
 
-/// Runs with a ticket lock whose first `tickets` tickets are used.
+/// Runs with a ticket lock whose first `tickets` tickets are used. Like that of `run`, it protects a
+/// gate in a box.
 pub fn watched_from<R: Threads + Wait + Abort + Sync>(
     rt: &R,
     alloc: Global,
@@ -89,9 +90,17 @@ pub fn watched_from<R: Threads + Wait + Abort + Sync>(
     watch: Watch,
     tickets: u64,
 ) -> Met {
-    let state = GateState::new(alloc, terms).expect(rt, "a gate");
+    let state = boxed_gate(rt, alloc, terms);
     let (lock, pass) = TicketLock::new_at(alloc, state, tickets).expect(rt, "a lock");
     run_watched(rt, alloc, terms, workers, watch, lock, pass)
+}
+
+/// Returns a new gate as `run` puts it into its lock.
+pub fn boxed_gate<'t>(rt: &impl Abort, alloc: Global, terms: &'t Terms) -> Box<GateState<'t>>
+    ensures { result.value.terms ≡ terms.now }
+{
+    let state = GateState::new(alloc, terms).expect(rt, "a gate");
+    Box::new(alloc, state).expect(rt, "a box")
 }
 
 /// Runs with a new ticket lock.

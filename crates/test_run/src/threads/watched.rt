@@ -4,15 +4,14 @@
 ghost use Rattle.std.specs.Prelude.{◌≡◌};
 
 use claim_gate::{
-    Accepted, BoxedOutcome, Counts, EndFault, Ended, FinishFault, Gate, Job, Offer, OfferFault,
-    Recorded, TakeFault, Taken,
+    BoxedOutcome, Counts, DecidedJob, EndFault, Ended, FinishFault, FinishResult, Gate, Job, Offer,
+    OfferFault, OfferResult, Refused, Served, TakeFault, Taken, WornOut,
 };
 use settlement::Money;
 use std::sync::Wait;
 use std::sync::atomic::{AtomicU64, Ordering};
 use std::thread;
 use std::time::Duration;
-use turn_lock::Worn;
 
 /// The greatest number of loads of a wait, which is far more than any wait of these tests needs.
 const LOOKS_LIMIT: u64 = 100_000_000;
@@ -107,6 +106,8 @@ pub struct Watch {
     /// intake thread is refused memory after this number of `take`s has reported the end of the
     /// run.
     pub overs: u64,
+    /// The number of `offer`s before which no `take` is answered, or 0.
+    pub offers_before_takes: u64,
     /// The number of first `offer`s that are refused as if memory had run out. The following fields
     /// have the same meaning for the other calls.
     pub refused_offers: u64,
@@ -124,6 +125,7 @@ pub fn nothing() -> Watch {
         stop_at_take: 0,
         stops_outcomes: false,
         overs: 0,
+        offers_before_takes: 0,
         refused_offers: 0,
         refused_ends: 0,
         refused_takes: 0,
@@ -188,15 +190,11 @@ impl<G> WatchedGate<G> {
         }
     }
 
-    fn note_recorded(
-        &self,
-        answer: &Result<Recorded, (FinishFault, Job, BoxedOutcome)>,
-        position: usize,
-        paid: Money,
-    ) {
-        if let Err((FinishFault::Stopped, job, outcome)) = answer
-            && job.position == position
-            && outcome.outcome().paid == paid
+    fn note_recorded(&self, answer: &FinishResult, position: usize, paid: Money) {
+        if let Err(refused) = answer
+            && matches!(refused.fault, FinishFault::Stopped)
+            && refused.value.job.position == position
+            && refused.value.outcome.outcome().paid == paid
         {
             self.handed_back.fetch_add(1, Ordering::SeqCst);
         }
@@ -223,11 +221,17 @@ impl<G: Gate> Gate for WatchedGate<G> {
         rt: &R,
         pass: G::Pass,
         offer: Offer,
-    ) -> Result<(Result<Accepted, (OfferFault, Offer)>, G::Pass), (Worn, G::Pass, Offer)> {
+    ) -> Result<Served<OfferResult, G::Pass>, WornOut<G::Pass, Offer>> {
         if next_number(&self.offered) <= self.watch.refused_offers {
             return match self.gate.counts(rt, pass) {
-                Ok((_, pass)) => Ok((Err((OfferFault::OutOfMemory, offer)), pass)),
-                Err((worn, pass)) => Err((worn, pass, offer)),
+                Ok(Served { pass, .. }) => Ok(Served {
+                    reply: Err(Refused {
+                        fault: OfferFault::OutOfMemory,
+                        value: offer,
+                    }),
+                    pass,
+                }),
+                Err(WornOut { pass, .. }) => Err(WornOut { pass, value: offer }),
             };
         }
         self.offers.come(rt, offer.provider as u64);
@@ -242,7 +246,7 @@ impl<G: Gate> Gate for WatchedGate<G> {
         pass: G::Pass,
         provider: usize,
         count: usize,
-    ) -> Result<(Result<Ended, EndFault>, G::Pass), (Worn, G::Pass)> {
+    ) -> Result<Served<Result<Ended, EndFault>, G::Pass>, WornOut<G::Pass>> {
         let is_ended = self.is_ended_by_another(provider);
         let is_refused = is_ended || next_number(&self.ended) <= self.watch.refused_ends;
         let (pass, other) = self.gate.split(pass);
@@ -254,8 +258,11 @@ impl<G: Gate> Gate for WatchedGate<G> {
             return self.gate.end(rt, pass, provider, count);
         }
         match self.gate.counts(rt, pass) {
-            Ok((_, pass)) => Ok((Err(EndFault::OutOfMemory), pass)),
-            Err((worn, pass)) => Err((worn, pass)),
+            Ok(Served { pass, .. }) => Ok(Served {
+                reply: Err(EndFault::OutOfMemory),
+                pass,
+            }),
+            Err(worn) => Err(worn),
         }
     }
 
@@ -263,14 +270,18 @@ impl<G: Gate> Gate for WatchedGate<G> {
         &self,
         rt: &R,
         pass: G::Pass,
-    ) -> Result<(Result<Taken, TakeFault>, G::Pass), (Worn, G::Pass)> {
+    ) -> Result<Served<Result<Taken, TakeFault>, G::Pass>, WornOut<G::Pass>> {
         let number = next_number(&self.taken);
         if number <= self.watch.refused_takes {
             return match self.gate.counts(rt, pass) {
-                Ok((_, pass)) => Ok((Err(TakeFault::OutOfMemory), pass)),
-                Err((worn, pass)) => Err((worn, pass)),
+                Ok(Served { pass, .. }) => Ok(Served {
+                    reply: Err(TakeFault::OutOfMemory),
+                    pass,
+                }),
+                Err(worn) => Err(worn),
             };
         }
+        wait_for(&self.offered, self.watch.offers_before_takes);
         let (pass, other) = self.gate.split(pass);
         if number == self.watch.stop_at_take {
             let _ = self.gate.stop(rt, other);
@@ -278,8 +289,8 @@ impl<G: Gate> Gate for WatchedGate<G> {
         self.takes.come(rt, 0);
         let answer = self.gate.take(rt, pass);
         self.takes.go();
-        if let Ok((taken, _)) = &answer {
-            self.note_taken(taken);
+        if let Ok(served) = &answer {
+            self.note_taken(&served.reply);
         }
         answer
     }
@@ -290,14 +301,20 @@ impl<G: Gate> Gate for WatchedGate<G> {
         pass: G::Pass,
         job: Job,
         outcome: BoxedOutcome,
-    ) -> Result<
-        (Result<Recorded, (FinishFault, Job, BoxedOutcome)>, G::Pass),
-        (Worn, G::Pass, Job, BoxedOutcome),
-    > {
+    ) -> Result<Served<FinishResult, G::Pass>, WornOut<G::Pass, DecidedJob>> {
         if next_number(&self.finished) <= self.watch.refused_outcomes {
             return match self.gate.counts(rt, pass) {
-                Ok((_, pass)) => Ok((Err((FinishFault::OutOfMemory, job, outcome)), pass)),
-                Err((worn, pass)) => Err((worn, pass, job, outcome)),
+                Ok(Served { pass, .. }) => Ok(Served {
+                    reply: Err(Refused {
+                        fault: FinishFault::OutOfMemory,
+                        value: DecidedJob { job, outcome },
+                    }),
+                    pass,
+                }),
+                Err(WornOut { pass, .. }) => Err(WornOut {
+                    pass,
+                    value: DecidedJob { job, outcome },
+                }),
             };
         }
         let (position, paid) = (job.position, outcome.outcome().paid);
@@ -306,17 +323,21 @@ impl<G: Gate> Gate for WatchedGate<G> {
             let _ = self.gate.stop(rt, other);
         }
         let answer = self.gate.finish(rt, pass, job, outcome);
-        if let Ok((recorded, _)) = &answer {
-            self.note_recorded(recorded, position, paid);
+        if let Ok(served) = &answer {
+            self.note_recorded(&served.reply, position, paid);
         }
         answer
     }
 
-    fn stop<R: Wait>(&self, rt: &R, pass: G::Pass) -> Result<G::Pass, (Worn, G::Pass)> {
+    fn stop<R: Wait>(&self, rt: &R, pass: G::Pass) -> Result<G::Pass, WornOut<G::Pass>> {
         self.gate.stop(rt, pass)
     }
 
-    fn counts<R: Wait>(&self, rt: &R, pass: G::Pass) -> Result<(Counts, G::Pass), (Worn, G::Pass)> {
+    fn counts<R: Wait>(
+        &self,
+        rt: &R,
+        pass: G::Pass,
+    ) -> Result<Served<Counts, G::Pass>, WornOut<G::Pass>> {
         self.gate.counts(rt, pass)
     }
 }

@@ -5,7 +5,7 @@ use Rattle.test_run.proofs.threads.later_files.accept.Goals as goal
 pub returns-clause-taken : goal.returns-clause-taken
 returns-clause-taken g c =
     let reply = rw c.in-Ok-reply.is at c.in-Ok.ensures.reply in
-    (accepts_on c.args.terms.now c.claim_lists_exist.ensures (g.G.Gate.known c.args.pass) (g.G.Gate.known c.in-Ok.pass) c.requires.terms
+    (accepts_on c.args.terms.now c.claim_lists_exist.ensures (g.G.Gate.known c.args.pass) (g.G.Gate.known c.in-Ok.served.pass) c.requires.terms
     c.in-Ok.ensures.served.section 1 c.args.place c.in-Ok-reply.accepted.position reply).1
 
 pub offer-requires-clause-in_order : goal.offer-requires-clause-in_order
