@@ -11,3 +11,5 @@ mod cells;
 mod ending;
 #[cfg(test)]
 mod numbers;
+#[cfg(test)]
+mod roles;

@@ -2,7 +2,7 @@
 ghost use Rattle.std.specs.Prelude.{◌<◌, length};
 
 use crate::ending::expects;
-use fixpoint::{BoundedBuffer, Failed, Out, ShortWrite, put_all};
+use fixpoint::{BoundedBuffer, BufferedOut, Failed, Out, PIECE_BYTES, ShortWrite, put_all};
 use std::alloc::Global;
 use std::io;
 use std::io::{ErrorKind, Write};
@@ -138,4 +138,64 @@ fn a_text_is_held_up_to_its_limit(rt: HostRuntime) {
 
 fn is_held(held: BoundedBuffer) -> bool {
     held.into_text().as_slice() == b"abc".as_slice()
+}
+
+// Tests how far a buffered text has come: the number of bytes that the writer has received, and
+// whether the text is cut.
+fn is_at(rt: &impl Abort, text: &BufferedOut, written: usize, cut: bool) {
+    expects(rt, text.bytes_written() == written, "a number of bytes");
+    expects(rt, text.is_cut() == cut, "a cut or none");
+}
+
+#[test]
+fn a_buffered_text_ends_with_its_length(rt: HostRuntime) {
+    let mut out = Out::new(Limited::new(rt.alloc(), 5, WhenFull::Fails));
+    let mut text = BufferedOut::new(rt.alloc());
+    text.put(b"ab", &mut out);
+    is_at(&rt, &text, 0, false);
+    text.hand_over(&mut out);
+    is_at(&rt, &text, 2, false);
+    text.put(b"c", &mut out);
+    text.put(b"d", &mut out);
+    text.hand_over(&mut out);
+    text.put(b"e", &mut out);
+    expects(&rt, text.end(&mut out) == Ok(5), "the whole text");
+    has_taken(&rt, out, b"abcde");
+}
+
+// Returns a text that begins with `front` and has `PIECE_BYTES` bytes more.
+fn longer_than_a_piece(rt: &impl Abort, alloc: Global, front: &[u8]) -> Vec<u8> {
+    let mut text = Vec::new(alloc);
+    expects(rt, text.extend_from_slice(front).is_ok(), "memory");
+    for _ in 0..PIECE_BYTES {
+        expects(rt, text.push(b'x').is_ok(), "memory");
+    }
+    text
+}
+
+#[test]
+fn a_text_of_the_size_of_the_buffer_is_passed_on_after_it(rt: HostRuntime) {
+    let full = PIECE_BYTES + 2;
+    let mut out = Out::new(Limited::new(rt.alloc(), full, WhenFull::Fails));
+    let mut text = BufferedOut::new(rt.alloc());
+    text.put(b"ab", &mut out);
+    text.put(
+        longer_than_a_piece(&rt, rt.alloc(), b"").as_slice(),
+        &mut out,
+    );
+    is_at(&rt, &text, full, false);
+    text.put(b"c", &mut out);
+    is_at(&rt, &text, full, false);
+    text.hand_over(&mut out);
+    is_at(&rt, &text, full, true);
+    expects(&rt, is_cut_at(text.end(&mut out), full), "a cut");
+    has_taken(
+        &rt,
+        out,
+        longer_than_a_piece(&rt, rt.alloc(), b"ab").as_slice(),
+    );
+}
+
+fn is_cut_at(answer: Result<usize, ShortWrite>, wanted: usize) -> bool {
+    answer == Err(ShortWrite { written: wanted })
 }
