@@ -14,3 +14,5 @@ mod explanations;
 mod places;
 #[cfg(test)]
 mod shown_text;
+#[cfg(test)]
+mod statuses;
