@@ -1,6 +1,6 @@
 -- The bytes that a writer has received of a text that is put in pieces, and the bytes that are
 -- buffered.
-use Rattle.std.proofs.Common.{◌≡◌, ℕ, ◌+◌, ◌-◌, ◌<◌, ◌≤◌, Bool, true, false, List, [], ◌++◌, length, take, drop, Option, Some, None, Result, Ok, Err, refl, ap, sym, subst, ◌∙◌, append_assoc, append-nil, take-append-drop, length-append, length-take-le, length-drop, arith}
+use Rattle.std.proofs.Common.{◌≡◌, ℕ, ◌+◌, Bool, true, false, List, [], ◌++◌, length, take, drop, Option, Result, Ok, Err, refl, ap, sym, subst, ◌∙◌, append_assoc, append-nil, take-append-drop, length-append, length-take-le, length-drop, arith}
 use Rattle.std.proofs.lemmas.Bool.{false≢true}
 use Rattle.std.specs.Io.KnownBytes.{Appends}
 use Rattle.std.proofs.KnownBytes.{Appends-nil, Appends-trans}
@@ -8,7 +8,7 @@ use Rattle.fixpoint.specs.Out.{PutsFront}
 use Rattle.fixpoint.specs.declared.whole_write.ShortWrite.{ShortWrite}
 use Rattle.fixpoint.specs.declared.buffered_out.BufferedOut.{BufferedOut}
 use Rattle.fixpoint.specs.declared.buffered_out.Progress.{Progress}
-use Rattle.fixpoint.specs.BufferedOut.{At, Ends, EndsText, Gone, GoneBy, Holds, IsCutAt, IsEmpty, IsGone, Passes, Puts, Start, Stays, at, at_progress, greatest_count, is_cut, starting, unsent_of, written_of}
+use Rattle.fixpoint.specs.BufferedOut.{At, Ends, EndsText, Gone, GoneBy, Holds, IsCutAt, IsEmpty, IsGone, Passes, Puts, Start, Stays, at, at_progress, is_cut, starting, unsent_of, written_of}
 
 -- nothing is put
 pub puts-none : (a : At) → Puts a a []

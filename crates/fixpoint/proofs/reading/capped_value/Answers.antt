@@ -1,3 +1,4 @@
+use Rattle.std.proofs.lemmas.Grind.{common_steps}
 use Rattle.std.proofs.Common.{get_or, arith}
 use Rattle.std.proofs.lemmas.Int.Digits.{digits_value_more}
 use Rattle.std.proofs.lemmas.Str.Parse.{digit_at}
@@ -13,3 +14,6 @@ loop-digit-preserved c =
     let digit = digit_at c.args.digits.now c.loop-digit.digit-index c.requires c.loop-digit-test.true in
     let value = value_of_digit (get_or c.args.digits.now c.loop-digit.digit-index 0) digit.0 digit.1 in
     omega (arith, more, value, c.min-value.ensures, c.from.ensures)
+
+pub returns : goal.returns
+returns c = grind (arith, common_steps)

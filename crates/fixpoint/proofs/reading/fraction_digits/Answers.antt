@@ -1,4 +1,5 @@
-use Rattle.std.proofs.Common.{◌≡◌, ◌≢◌, ◌<◌, ◌-◌, length, take, drop, subst, sym, ap, ◌∙◌, rules, tests}
+use Rattle.std.proofs.lemmas.Grind.{common_steps}
+use Rattle.std.proofs.Common.{◌≡◌, ◌≢◌, ◌<◌, ◌-◌, length, take, drop, subst, sym, ap, ◌∙◌, rules, tests, arith}
 use Rattle.std.proofs.lemmas.Bool.{eqb-true}
 use Rattle.std.proofs.lemmas.List.{take_rest}
 use Rattle.fixpoint.specs.Reading.{BeginsWithDigits}
@@ -20,3 +21,12 @@ returns-else-text-eq46 c =
           IsNoDotText-from_empty bytes some (ap length (sym rest) ∙ eqb-true _ _ (sym w.if-not-is_empty.ensures))
       | else-text-eq46-via-else-text-eq46 w ↦ IsNoDotText-from_first bytes some w.if-text-eq46.false
     ]
+
+pub returns-then-leading_digits-fraction : goal.returns-then-leading_digits-fraction
+returns-then-leading_digits-fraction c = grind (arith, common_steps)
+
+pub returns-then-is_empty : goal.returns-then-is_empty
+returns-then-is_empty c = grind (arith, common_steps)
+
+pub bounds-text-0 : goal.bounds-text-0
+bounds-text-0 c = grind (arith, common_steps)

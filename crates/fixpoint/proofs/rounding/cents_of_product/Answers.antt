@@ -25,3 +25,13 @@ returns-else-product-lt0 c =
     let size : c.unsigned_abs.result ≡ unsigned_abs (c.args.one *ℤ c.args.other) = c.unsigned_abs.ensures.value ∙ ap unsigned_abs product in
     let cents = cents_not_negative c.args.one c.args.other (c.args.one *ℤ c.args.other) c.unsigned_abs.result c.half_even.result (λ i. c.args.one *ℤ c.args.other) size c.half_even.ensures sign in
     omega (arith, ints, high, cents, c.half_even.ensures)
+
+pub overflow_mul-units : goal.overflow_mul-units
+overflow_mul-units c =
+    let high = half_even_high c.unsigned_abs.result in
+    omega (arith, ints, high, c.half_even.ensures)
+
+pub overflow_cast-units : goal.overflow_cast-units
+overflow_cast-units c =
+    let high = half_even_high c.unsigned_abs.result in
+    omega (arith, ints, high, c.half_even.ensures)

@@ -1,4 +1,5 @@
-use Rattle.std.proofs.Common.{refl}
+use Rattle.std.proofs.lemmas.Grind.{common_steps}
+use Rattle.std.proofs.Common.{refl, arith}
 use Rattle.fixpoint.proofs.Buffering.{gathers, hands-more, stays-then}
 use Rattle.fixpoint.proofs.buffered_out.BufferedOut.put.Goals as goal
 
@@ -12,3 +13,9 @@ returns-clause-puts g c =
 pub returns-clause-stays : goal.returns-clause-stays
 returns-clause-stays g c =
     rw (← c.gather.ensures.same) (stays-then _ _ _ _ _ _ c.hand_over.ensures.stays c.pass.ensures.stays)
+
+pub returns-clause-bounded : goal.returns-clause-bounded
+returns-clause-bounded g c = grind (arith, common_steps)
+
+pub returns-then-gather-clause-bounded : goal.returns-then-gather-clause-bounded
+returns-then-gather-clause-bounded g c = grind (arith, common_steps)

@@ -1,3 +1,4 @@
+use Rattle.std.proofs.lemmas.Grind.{common_steps}
 use Rattle.std.proofs.Common.{refl, rules, arith}
 use Rattle.fixpoint.proofs.Buffering.{cut-passes, part-passes, stays-failed, stays-same, stays-whole, whole-passes}
 use Rattle.fixpoint.proofs.buffered_out.Progress.pass.Goals as goal
@@ -19,3 +20,6 @@ returns-in-Err-clause-passes g c = part-passes _ _ _ _ c.args.self.now _ c.args.
 
 pub returns-in-Err-clause-stays : goal.returns-in-Err-clause-stays
 returns-in-Err-clause-stays g c = stays-failed _ _ _ _ refl c.in-Err.ensures.failed
+
+pub returns-then-text-self-clause-passes : goal.returns-then-text-self-clause-passes
+returns-then-text-self-clause-passes g c = grind (arith, common_steps)

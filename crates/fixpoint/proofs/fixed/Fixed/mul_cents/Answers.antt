@@ -1,4 +1,5 @@
-use Rattle.std.proofs.Common.{SomeIff, rules}
+use Rattle.std.proofs.lemmas.Grind.{common_steps}
+use Rattle.std.proofs.Common.{SomeIff, rules, arith}
 use Rattle.fixpoint.specs.Money.{cents_of_product}
 use Rattle.fixpoint.specs.Number.{IsInRange}
 use Rattle.fixpoint.proofs.NearestCents.{rounded_where_exact}
@@ -9,3 +10,12 @@ returns-clause-rounded c =
     let units = cents_of_product c.args.self c.args.rate in
     let exact : SomeIff c.from_units.result (IsInRange units) units = search rules in
     rounded_where_exact c.args.self c.args.rate c.from_units.result (IsInRange units) exact
+
+pub returns-clause-exact : goal.returns-clause-exact
+returns-clause-exact c =
+    let units = cents_of_product c.args.self c.args.rate in
+    let exact : SomeIff c.from_units.result (IsInRange units) units = search rules in
+    exact
+
+pub returns-in_err-ok-clause-rounded : goal.returns-in_err-ok-clause-rounded
+returns-in_err-ok-clause-rounded c = grind (arith, common_steps)

@@ -1,3 +1,4 @@
+use Rattle.std.proofs.lemmas.Grind.{common_steps}
 use Rattle.std.proofs.Common.{arith}
 use Rattle.std.proofs.lemmas.Int.{ints}
 use Rattle.std.proofs.lemmas.Result.{err_from_is_err_and}
@@ -26,3 +27,15 @@ returns-clause-answers c =
     Denotes-from_count c.args.text.now c.in_ok-negative.negative c.in_ok-negative.whole.now c.in_ok-negative.fraction.now parts
     c.in_ok-count.count c.in_ok-count.ensures _
     (elim c.if-negative.branch [ then-negative w ↦ rw w.if-negative.true (omega (arith, ints)) | else-negative w ↦ rw w.if-negative.false (omega (arith, ints)) ])
+
+pub invariant_of-result : goal.invariant_of-result
+invariant_of-result c = grind (arith, common_steps)
+
+pub ten_thousandths-requires-clause-whole : goal.ten_thousandths-requires-clause-whole
+ten_thousandths-requires-clause-whole c = grind (arith, common_steps)
+
+pub ten_thousandths-requires-clause-fraction : goal.ten_thousandths-requires-clause-fraction
+ten_thousandths-requires-clause-fraction c = grind (arith, common_steps)
+
+pub overflow_sub-units : goal.overflow_sub-units
+overflow_sub-units c = grind (arith, common_steps)
