@@ -1,4 +1,5 @@
-use Rattle.std.proofs.Common.{rules, ap, ◌∙◌}
+use Rattle.std.proofs.lemmas.Grind.{common_steps}
+use Rattle.std.proofs.Common.{rules, ap, ◌∙◌, arith}
 use mathlib.Core.Option.{none}
 use Rattle.atomic_table.specs.Table.{step}
 use Rattle.turn_lock.specs.Ticket.{stage_of}
@@ -15,3 +16,6 @@ load-served-requires g c = (
 
 pub returns-then-served-ticket-clause-begun : goal.returns-then-served-ticket-clause-begun
 returns-then-served-ticket-clause-begun g c = begun g.T.Growing.leads (step 0 0 0 0 none) _ _ _ _ _ c.loop.invariant.1 c.requires.waiting.1 c.load-served.ensures.2 (search rules)
+
+pub loop-preserved : goal.loop-preserved
+loop-preserved g c = grind (arith, common_steps)

@@ -1,4 +1,5 @@
-use Rattle.std.proofs.Common.{rules}
+use Rattle.std.proofs.lemmas.Grind.{common_steps}
+use Rattle.std.proofs.Common.{rules, arith}
 use Rattle.turn_lock.proofs.TicketMoves.{draws_allowed}
 use Rattle.turn_lock.proofs.ticket.lock.TicketLock.draw.Goals as goal
 
@@ -10,3 +11,6 @@ invariant_of-result-2 g c = search rules
 
 pub invariant_of-result : goal.invariant_of-result
 invariant_of-result g c = search rules
+
+pub returns-then-found-next-clause-drawn : goal.returns-then-found-next-clause-drawn
+returns-then-found-next-clause-drawn g c = grind (arith, common_steps)

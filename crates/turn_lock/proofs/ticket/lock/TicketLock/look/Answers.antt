@@ -1,4 +1,5 @@
-use Rattle.std.proofs.Common.{rules}
+use Rattle.std.proofs.lemmas.Grind.{common_steps}
+use Rattle.std.proofs.Common.{rules, arith}
 use Rattle.turn_lock.proofs.TicketMoves.{looks_allowed}
 use Rattle.turn_lock.proofs.ticket.lock.TicketLock.look.Goals as goal
 
@@ -7,3 +8,9 @@ load-next-requires g c = (search rules, search rules, looks_allowed g.T.Growing.
 
 pub invariant_of-result : goal.invariant_of-result
 invariant_of-result g c = search rules
+
+pub returns-clause-looked : goal.returns-clause-looked
+returns-clause-looked g c = grind (arith, common_steps)
+
+pub returns-then-next-clause-worn : goal.returns-then-next-clause-worn
+returns-then-next-clause-worn g c = grind (arith, common_steps)

@@ -1,4 +1,5 @@
-use Rattle.std.proofs.Common.{rules, ap, ◌∙◌}
+use Rattle.std.proofs.lemmas.Grind.{common_steps}
+use Rattle.std.proofs.Common.{rules, ap, ◌∙◌, arith}
 use mathlib.Core.Option.{none}
 use Rattle.atomic_table.specs.Table.{step}
 use Rattle.turn_lock.specs.Ticket.{stage_of}
@@ -18,3 +19,6 @@ load-requires g c = (
 
 pub split_seat-second-requires : goal.split_seat-second-requires
 split_seat-second-requires g c = (search rules, search rules, splits_allowed g.T.Growing.leads _ _ _ (settled_idle g.T.Growing.leads 0 (step 0 0 0 0 none) _ _ c.load.result c.load.ensures.2))
+
+pub returns-clause-same : goal.returns-clause-same
+returns-clause-same g c = grind (arith, common_steps)
