@@ -8,7 +8,7 @@ use Rattle.feel_tests.specs.Calendar.{IsDateText}
 use Rattle.feel_tests.specs.Value.{flag_text}
 use Rattle.feel_tests.specs.Grammar.{date_word, op_symbol, start_in, end_in, HasOrder, IsDate, IsLiteral, IsSpan, IsTest}
 use Rattle.feel_tests.specs.Symbols.{op_of}
-use Rattle.feel_tests.specs.Parts.{Denies, DeniesPart, IsStart, IsEnd, IsSpanTest}
+use Rattle.feel_tests.specs.Parts.{DeniesPart, IsStart, IsEnd, IsSpanTest}
 use Rattle.feel_tests.specs.Cell.{SpellsValue}
 use Rattle.feel_tests.specs.declared.symbol.Symbol.{Symbol}
 use Rattle.feel_tests.specs.declared.symbol.Symbol.TheVariants as symbols
@@ -124,6 +124,18 @@ interval_denied kind text low_in span f b d memory (Between low in_low high high
     let starts : in_low ≡ low_in = some_is in_low low_in (sym h.start_is ∙ ap start_in one.0 ∙ b.2) in
     d memory (Between low in_low high high_in) rest (starts, subst (λ (t : List ℕ). IsSpan kind t low high high_in rest) one.1 h.has_span)
 
+pub interval_read : (kind : Kind) (text : List ℕ) (low_in : Bool) (span : List ℕ) (test : Test) (rest : List ℕ) → HasOrder kind → IsStart text low_in span → IsSpanTest kind low_in span test rest → IsTest kind text test rest
+interval_read kind text low_in span (Equal value) rest ordered b s = absurd s
+interval_read kind text low_in span (Compare op value) rest ordered b s = absurd s
+interval_read kind text low_in span (Between low in_low high high_in) rest ordered b s = record {
+  ordered = ordered;
+  bracket = b.0;
+  span = span;
+  opens = b.1;
+  start_is = b.2 ∙ ap Some (sym s.0);
+  has_span = s.1;
+}
+
 op_back : (op : Op) → op_of (op_symbol op) ≡ Some op
 op_back Less = refl
 op_back AtMost = refl
@@ -191,6 +203,6 @@ end_denied text s after b none high_in rest h =
 
 -- ---- whole literals
 
-pub value_trailing : (kind : Kind) (text : List ℕ) (value : Value) (rest : List ℕ) (f : Refusal) → IsLiteral kind text value rest → ¬ IsBlank rest → Denies (SpellsValue kind text) f
-value_trailing kind text value rest f l more memory other h =
+pub value_trailing : (kind : Kind) (text : List ℕ) (value : Value) (rest : List ℕ) → IsLiteral kind text value rest → ¬ IsBlank rest → (other : Value) → SpellsValue kind text other → ⊥
+value_trailing kind text value rest l more other h =
     more (subst (λ (t : List ℕ). IsBlank t) (literal_rest kind text other h.0 value rest h.1 l) h.2)

@@ -8,7 +8,8 @@ use Rattle.std.proofs.lemmas.Str.Parse.{digit_from_value}
 use Rattle.std.proofs.lemmas.Bool.{or_from, ne_eqb}
 use Rattle.std.proofs.lemmas.Bool.Decides.{nat_tests}
 use Rattle.std.proofs.lemmas.List.{append-nil, length-append}
-use Rattle.fixpoint.specs.NumberText.{IsNumberText, Denotes, dot_text, shortest_text}
+use Rattle.fixpoint.specs.Number.{IsInRange}
+use Rattle.fixpoint.specs.NumberText.{IsNumberText, Denotes, ShortestTextDenotes, dot_text, shortest_text}
 use Rattle.jiff_core.specs.declared.civil.date.Date.{Date}
 use Rattle.jiff_core.specs.Date.{epoch_day}
 use Rattle.jiff_core.specs.Calendar.{days_from_civil}
@@ -53,8 +54,10 @@ white_at false (w ∷ ws) fraction h some = white_byte w (ws ++ dot_text fractio
 number_dark : (text : List ℕ) → IsNumberText text → skip_white text ≡ text
 number_dark text h = subst (λ (t : List ℕ). skip_white t ≡ t) (sym h.spelled) (white_at h.negative h.whole h.fraction h.whole_digits h.has_digit)
 
-pub number_back : (units : ℤ) → Denotes (shortest_text units) units → SpellsValue kinds.Number (shortest_text units) (Number units)
-number_back units d = ([], (refl, shortest_text units, whole_word (shortest_text units) (Digits (shortest_text units)) (refl, d.worth.text) (number_dark (shortest_text units) d.worth.text), d), refl)
+pub number_back : ShortestTextDenotes → (seen units : ℤ) → seen ≡ units → IsInRange seen → SpellsValue kinds.Number (shortest_text units) (Number units)
+number_back law seen units is range =
+    let d : Denotes (shortest_text units) units = law units (subst IsInRange is range) in
+    ([], (refl, shortest_text units, whole_word (shortest_text units) (Digits (shortest_text units)) (refl, d.worth.text) (number_dark (shortest_text units) d.worth.text), d), refl)
 
 pub text_back : (bytes : List ℕ) → IsText bytes → SpellsValue kinds.Text (quote_text bytes) (Text bytes)
 text_back bytes h = ([], (refl, whole_word (quote_text bytes) (Quoted bytes) refl refl, h), refl)

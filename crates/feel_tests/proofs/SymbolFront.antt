@@ -1,9 +1,10 @@
 -- The symbol at the start of a text: the longest that the text begins with.
-use Rattle.std.proofs.Common.{◌≡◌, ℕ, ◌≤◌, Bool, true, false, cond, List, [], ◌∷◌, ◌++◌, length, drop, Option, Some, None, refl, sym, ap, subst, ◌∙◌, ◌⊎◌, inl, inr, arith}
+use Rattle.std.proofs.Common.{◌≡◌, ℕ, ◌+◌, ◌<◌, ◌≤◌, get_or, Bool, true, false, cond, List, [], ◌∷◌, ◌++◌, length, drop, Option, Some, None, refl, sym, ap, subst, ◌∙◌, ◌⊎◌, inl, inr, arith}
 use Rattle.std.specs.Prelude.{find, nat_eq}
 use Rattle.std.specs.List.{starts_with, AllByRecursion}
 use Rattle.std.specs.Str.{bytes_eq}
 use Rattle.std.proofs.lemmas.Bool.{false≢true}
+use Rattle.std.proofs.lemmas.List.{at_drop_more, length-append}
 use Rattle.std.proofs.lemmas.Bool.Decides.{Decides-eqb}
 use Rattle.std.proofs.lemmas.Slice.Eq.{starts_is}
 use Rattle.feel_tests.specs.Words.{symbol_text}
@@ -22,6 +23,11 @@ find_passes : {X : Type 0} (p : X → Bool) (xs : List X) (x : X) → find p xs 
 find_passes p [] x e = absurd cc
 find_passes p (y ∷ xs) x e = find_at p y x xs (p y) refl e (find_passes p xs x)
 
+-- the first one of those after an item that fails is the first one from that item on
+pub find_missed : {X : Type 0} (p : X → Bool) (xs : List X) (i : ℕ) (d : X) → i < length xs → p (get_or xs i d) ≡ false → find p (drop i xs) ≡ find p (drop (i + 1) xs)
+find_missed p xs i d within missed =
+    at_drop_more (find p) xs i d within ∙ ap (λ b. cond b (Some (get_or xs i d)) (find p (drop (i + 1) xs))) missed
+
 none_at : {X : Type 0} (p : X → Bool) (y : X) (xs : List X) (t : Bool) → p y ≡ t → cond t (Some y) (find p xs) ≡ None → (p y ≡ false) × (find p xs ≡ None)
 none_at p y xs true e f = absurd cc
 none_at p y xs false e f = (e, f)
@@ -38,6 +44,12 @@ pub symbol_found : (bytes : List ℕ) (symbol : Symbol) → find (λ s. starts_w
 symbol_found bytes symbol e =
     let passed = find_passes (λ s. starts_with nat_eq bytes (symbol_text s)) symbols symbol e in
     (starts_is Decides-eqb bytes (symbol_text symbol) (starts_with nat_eq bytes (symbol_text symbol)) refl).0 passed
+
+pub symbol_within : (bytes : List ℕ) (symbol : Symbol) → find (λ s. starts_with nat_eq bytes (symbol_text s)) symbols ≡ Some symbol → length (symbol_text symbol) ≤ length bytes
+symbol_within bytes symbol e =
+    let rest = drop (length (symbol_text symbol)) bytes in
+    let joined : length bytes ≡ length (symbol_text symbol) + length rest = ap length (symbol_found bytes symbol e) ∙ length-append (symbol_text symbol) rest in
+    omega (arith, joined)
 
 -- a symbol is not empty
 pub some_bytes : (symbol : Symbol) → 1 ≤ length (symbol_text symbol)

@@ -25,6 +25,14 @@ day_of day = unsigned_abs (day -ℤ days_from_civil (pos (year_of day)) (month_o
 abbrev pub year_text : ℕ → List ℕ
 year_text year = two_digits (year / 100) ++ two_digits (year % 100)
 
+-- the four bytes are the digits of this year, 0001 to 9999
+pub record HasYearDigits (y3 y2 y1 y0 year : ℕ) : Type 0 where
+  pub year_in : IsInRange 1 9999 year
+  pub thousands : y3 ≡ 48 + year / 100 / 10
+  pub hundreds : y2 ≡ 48 + year / 100 % 10
+  pub tens : y1 ≡ 48 + year % 100 / 10
+  pub ones : y0 ≡ 48 + year % 100 % 10
+
 -- the text is this year, 0001 to 9999, in four digits
 pub record IsYearText (text : List ℕ) (year : ℕ) : Type 0 where
   pub spelled : text ≡ year_text year

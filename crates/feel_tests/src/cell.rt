@@ -1,6 +1,6 @@
 //! Cells: the unary tests that one entry of a decision table applies to a value.
 ghost use Rattle.std.specs.Prelude.{◌≡◌, [], ◌∷◌, ◌++◌, OnOk};
-ghost use Rattle.feel_tests.specs.Holds.{holds, passes, is_less, is_at_most, is_below, one_passes};
+ghost use Rattle.feel_tests.specs.Holds.{holds, passes, is_below, one_passes};
 
 use crate::value::Value;
 use smallvec::SmallVec;
@@ -11,7 +11,7 @@ use std::marker::Model;
 pub const TEST_LIMIT: usize = 64;
 
 /// A comparison operator between a value and a literal.
-#[derive(Clone, Copy, PartialEq, Eq)]
+#[derive(Clone, Copy)]
 pub enum Op {
     /// `<`
     Less,
@@ -143,7 +143,12 @@ impl Cell {
 fn one_passes(tests: &[Test], value: &Value) -> bool
     ensures { result ≡ one_passes tests.now value.now }
 {
-    tests.iter().any(|test| test.passes(value))
+    for test in tests {
+        if test.passes(value) {
+            return true;
+        }
+    }
+    false
 }
 
 impl Test {
@@ -152,10 +157,10 @@ impl Test {
     {
         match self {
             Test::Equal(literal) => value == literal,
-            Test::Compare(Op::Less, literal) => value.is_less(literal),
-            Test::Compare(Op::AtMost, literal) => value.is_at_most(literal),
-            Test::Compare(Op::More, literal) => literal.is_less(value),
-            Test::Compare(Op::AtLeast, literal) => literal.is_at_most(value),
+            Test::Compare(Op::Less, literal) => value.is_below(false, literal),
+            Test::Compare(Op::AtMost, literal) => value.is_below(true, literal),
+            Test::Compare(Op::More, literal) => literal.is_below(false, value),
+            Test::Compare(Op::AtLeast, literal) => literal.is_below(true, value),
             Test::Between {
                 low,
                 low_in,
@@ -167,32 +172,15 @@ impl Test {
 }
 
 impl Value {
+    // Compares two numbers or two days. With `end_in`, a value is below an equal one.
     fn is_below(&self, end_in: bool, other: &Value) -> bool
         ensures { result ≡ is_below end_in self.now other.now }
     {
-        if end_in {
-            self.is_at_most(other)
-        } else {
-            self.is_less(other)
-        }
-    }
-
-    fn is_less(&self, other: &Value) -> bool
-        ensures { result ≡ is_less self.now other.now }
-    {
         match (self, other) {
-            (Value::Number(one), Value::Number(two)) => one < two,
-            (Value::Day(one), Value::Day(two)) => one < two,
-            _ => false,
-        }
-    }
-
-    fn is_at_most(&self, other: &Value) -> bool
-        ensures { result ≡ is_at_most self.now other.now }
-    {
-        match (self, other) {
-            (Value::Number(one), Value::Number(two)) => one <= two,
-            (Value::Day(one), Value::Day(two)) => one <= two,
+            (Value::Number(one), Value::Number(two)) => {
+                if end_in { one <= two } else { one < two }
+            }
+            (Value::Day(one), Value::Day(two)) => { if end_in { one <= two } else { one < two } }
             _ => false,
         }
     }

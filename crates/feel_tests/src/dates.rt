@@ -1,14 +1,13 @@
 //! Dates as text: `YYYY-MM-DD` in the Gregorian calendar of `jiff`.
-ghost use Rattle.std.specs.Prelude.{◌≡◌, ℕ, ℤ, pos, ◌+◌, ◌/◌, ◌%◌, ◌<◌, IfOk, IfSome, IfNone, string_bytes};
+ghost use Rattle.std.specs.Prelude.{◌≡◌, ℕ, ℤ, pos, ◌+◌, ◌/◌, ◌%◌, ◌<◌, IfSome, IfNone};
 ghost use Rattle.std.specs.Int.{IsInRange};
 ghost use Rattle.jiff_core.specs.Date.{epoch_day};
 ghost use Rattle.feel_tests.specs.DayNumber.{IsDayNumber};
-ghost use Rattle.feel_tests.specs.Calendar.{ymd_text, day_text, year_of, year_text, IsDateText, IsYearText};
+ghost use Rattle.feel_tests.specs.Calendar.{ymd_text, year_of, year_text, HasYearDigits, IsDateText, IsYearText};
 
 use crate::day::Day;
 use jiff::civil::Date;
 use jiff_core::civil;
-use std::alloc::{AllocError, Global};
 
 /// Returns the day that the text denotes, or `None` if it is not a date `YYYY-MM-DD` of the years
 /// 0001 to 9999.
@@ -17,22 +16,10 @@ pub fn day_of(text: &[u8]) -> Option<Day>
     ensures none { IfNone result ((day : ℤ) → ¬ IsDateText text.now day) }
 {
     let (year, month, place) = ymd_of(text)?;
-    // The calendar of `jiff` has a year 0, but literals do not.
-    if year == 0 {
-        return None;
-    }
     match Date::new(year as i16, month as i8, place as i8) {
         Ok(date) => Day::from_epoch_day(date.to_plain().to_unix_epoch_day()),
         Err(_) => None,
     }
-}
-
-/// Returns the text of a day, `YYYY-MM-DD`.
-pub fn text_of(alloc: Global, day: Day) -> Result<String, AllocError>
-    ensures { IfOk result (λ text. string_bytes text ≡ day_text day) }
-{
-    let date = date_of(day);
-    date.to_string(alloc)
 }
 
 /// Converts a day to a date of `jiff`.
@@ -68,8 +55,17 @@ pub fn year_in(text: &[u8]) -> Option<u16>
     let [y3, y2, y1, y0] = text else {
         return None;
     };
-    let century = two_digits(*y3, *y2)?;
-    let rest = two_digits(*y1, *y0)?;
+    year_from_digits(*y3, *y2, *y1, *y0)
+}
+
+// Returns the year of four digits, or `None` if they are not `0001` to `9999`.
+fn year_from_digits(y3: u8, y2: u8, y1: u8, y0: u8) -> Option<u16>
+    ensures some { IfSome result (HasYearDigits y3 y2 y1 y0) }
+    ensures none { IfNone result ((year : ℕ) → ¬ HasYearDigits y3 y2 y1 y0 year) }
+{
+    let century = two_digits(y3, y2)?;
+    let rest = two_digits(y1, y0)?;
+    // The calendar of `jiff` has a year 0, but literals do not.
     if century == 0 && rest == 0 {
         return None;
     }
@@ -81,17 +77,22 @@ pub fn year_text(year: u16) -> [u8; 4]
     requires { year < 10000 }
     ensures { result ≡ year_text year }
 {
-    let (y3, y2) = digits_of((year / 100) as u8);
-    let (y1, y0) = digits_of((year % 100) as u8);
-    [y3, y2, y1, y0]
+    let century = (year / 100) as u8;
+    let rest = (year % 100) as u8;
+    [
+        b'0' + century / 10,
+        b'0' + century % 10,
+        b'0' + rest / 10,
+        b'0' + rest % 10,
+    ]
 }
 
 // Splits a text of the form `YYYY-MM-DD` into year, month and day. They need not be a date of the
-// calendar.
+// calendar, but the year is from 1 to 9999.
 fn ymd_of(text: &[u8]) -> Option<(u16, u8, u8)>
     ensures some { IfSome result (λ ymd. (text.now ≡ ymd_text ymd.0 ymd.1 ymd.2)
-        × (ymd.0 < 10000) × (ymd.1 < 100) × (ymd.2 < 100)) }
-    ensures none { IfNone result ((year month place : ℕ) → year < 10000
+        × IsInRange 1 9999 ymd.0 × (ymd.1 < 100) × (ymd.2 < 100)) }
+    ensures none { IfNone result ((year month place : ℕ) → IsInRange 1 9999 year
         → month < 100 → place < 100 → ¬ (text.now ≡ ymd_text year month place)) }
 {
     let [y3, y2, y1, y0, dash, m1, m0, hyphen, d1, d0] = text else {
@@ -100,11 +101,10 @@ fn ymd_of(text: &[u8]) -> Option<(u16, u8, u8)>
     if *dash != b'-' || *hyphen != b'-' {
         return None;
     }
-    let century = two_digits(*y3, *y2)?;
-    let year = two_digits(*y1, *y0)?;
+    let year = year_from_digits(*y3, *y2, *y1, *y0)?;
     let month = two_digits(*m1, *m0)?;
     let place = two_digits(*d1, *d0)?;
-    Some((century as u16 * 100 + year as u16, month, place))
+    Some((year, month, place))
 }
 
 fn two_digits(tens: u8, ones: u8) -> Option<u8>
@@ -116,11 +116,4 @@ fn two_digits(tens: u8, ones: u8) -> Option<u8>
         return None;
     }
     Some((tens - b'0') * 10 + (ones - b'0'))
-}
-
-fn digits_of(number: u8) -> (u8, u8)
-    requires { number < 100 }
-    ensures { (result.0 ≡ 48 + number / 10) × (result.1 ≡ 48 + number % 10) }
-{
-    (b'0' + number / 10, b'0' + number % 10)
 }

@@ -1,8 +1,7 @@
 //! Laws of literals and cells, to be cited by other proofs. The calls have no effect.
 ghost use Rattle.std.specs.Prelude.{◌≤◌, length};
-ghost use Rattle.fixpoint.specs.NumberText.{shortest_text};
 ghost use Rattle.feel_tests.specs.Words.{quote_text};
-ghost use Rattle.feel_tests.specs.Value.{kind_of, literal_text, flag_text, date_literal};
+ghost use Rattle.feel_tests.specs.Value.{kind_of, literal_text};
 ghost use Rattle.feel_tests.specs.Cell.{SpellsValue, SpellsOneCell, SpellsOneValue};
 ghost use Rattle.feel_tests.specs.Plain.{SpellsOnePlain};
 ghost use Rattle.feel_tests.specs.declared.kind.Kind.TheVariants as kinds;
@@ -10,9 +9,7 @@ ghost use Rattle.feel_tests.specs.declared.value.Value.TheVariants as values;
 ghost use Rattle.feel_tests.specs.Limits.{text_limit_bytes};
 
 use crate::dates::date_of;
-use crate::day::Day;
 use crate::value::Value;
-use fixpoint::Fixed;
 
 /// A text denotes at most one cell of a kind.
 pub fn text_spells_at_most_one_cell()
@@ -41,19 +38,17 @@ pub fn literal_spells_its_value(value: &Value)
     ensures { SpellsValue (kind_of value.now) (literal_text value.now) value.now }
 {
     match value {
-        Value::Number(number) => number_spells(*number),
+        Value::Number(number) => {
+            fixpoint::shortest_text_denotes();
+            // proof: the number is in its range
+            let _units = number.units();
+        }
         Value::Text(text) => text_spells(text.as_str()),
-        Value::Flag(flag) => flag_spells(*flag),
-        Value::Day(day) => day_spells(*day),
+        Value::Flag(_) => {}
+        Value::Day(day) => {
+            let _date = date_of(*day);
+        }
     }
-}
-
-fn number_spells(number: Fixed)
-    ensures { SpellsValue kinds.Number (shortest_text number) (values.Number number) }
-{
-    fixpoint::shortest_text_denotes();
-    // proof: the number is in its range
-    let _units = number.units();
 }
 
 fn text_spells(text: &str)
@@ -62,16 +57,4 @@ fn text_spells(text: &str)
 {
     // proof: the text is UTF-8 within its limit
     let _bytes = text.as_bytes();
-}
-
-fn flag_spells(flag: bool)
-    ensures { SpellsValue kinds.Flag (flag_text flag) (values.Flag flag) }
-{
-    let _flag = flag;
-}
-
-fn day_spells(day: Day)
-    ensures { SpellsValue kinds.Day (date_literal day) (values.Day day) }
-{
-    let _date = date_of(day);
 }

@@ -2,12 +2,10 @@
 ghost use Rattle.std.specs.Prelude.{◌≡◌, ◌++◌, IfOk, OnOk, OnErr};
 ghost use Rattle.feel_tests.specs.Value.{date_literal, literal_text};
 ghost use Rattle.feel_tests.specs.Words.{quote_text, escaped_byte};
-ghost use Rattle.fixpoint.specs.NumberText.{shortest_text};
 
-use crate::dates::text_of;
+use crate::dates::date_of;
 use crate::day::Day;
 use crate::value::Value;
-use fixpoint::Fixed;
 use std::alloc::{AllocError, Global};
 
 impl Value {
@@ -18,30 +16,23 @@ impl Value {
         ensures err { OnErr result (out.new.items ≡ out.old.items) }
     {
         match self {
-            Value::Number(number) => write_number(*number, out),
-            Value::Text(text) => write_quoted(text.as_bytes(), out),
+            Value::Number(number) => {
+                let mut buffer = [0; 24];
+                let len = number.write_into(&mut buffer);
+                out.extend_from_slice(&buffer[..len])
+            }
+            Value::Text(text) => {
+                let literal = quote_text(*out.allocator(), text.as_bytes())?;
+                out.extend_from_slice(&literal)
+            }
             Value::Flag(true) => out.extend_from_slice(b"true"),
             Value::Flag(false) => out.extend_from_slice(b"false"),
-            Value::Day(day) => write_day(*day, out),
+            Value::Day(day) => {
+                let literal = date_literal(*out.allocator(), *day)?;
+                out.extend_from_slice(&literal)
+            }
         }
     }
-}
-
-fn write_number(number: Fixed, out: &mut Vec<u8>) -> Result<(), AllocError>
-    ensures ok { OnOk result (out.new.items ≡ out.old.items ++ shortest_text number) }
-    ensures err { OnErr result (out.new.items ≡ out.old.items) }
-{
-    let mut buffer = [0; 24];
-    let len = number.write_into(&mut buffer);
-    out.extend_from_slice(&buffer[..len])
-}
-
-fn write_quoted(bytes: &[u8], out: &mut Vec<u8>) -> Result<(), AllocError>
-    ensures ok { OnOk result (out.new.items ≡ out.old.items ++ quote_text bytes.now) }
-    ensures err { OnErr result (out.new.items ≡ out.old.items) }
-{
-    let literal = quote_text(*out.allocator(), bytes)?;
-    out.extend_from_slice(&literal)
 }
 
 fn quote_text(alloc: Global, bytes: &[u8]) -> Result<Vec<u8>, AllocError>
@@ -66,19 +57,12 @@ fn push_escaped(byte: u8, literal: &mut Vec<u8>) -> Result<(), AllocError>
     Ok(())
 }
 
-fn write_day(day: Day, out: &mut Vec<u8>) -> Result<(), AllocError>
-    ensures ok { OnOk result (out.new.items ≡ out.old.items ++ date_literal day) }
-    ensures err { OnErr result (out.new.items ≡ out.old.items) }
-{
-    let literal = date_literal(*out.allocator(), day)?;
-    out.extend_from_slice(&literal)
-}
-
 fn date_literal(alloc: Global, day: Day) -> Result<Vec<u8>, AllocError>
     ensures { IfOk result (λ literal. literal.items ≡ date_literal day) }
 {
     let mut literal = Vec::from_slice(alloc, b"date(\"")?;
-    let text = text_of(alloc, day)?;
+    let date = date_of(day);
+    let text = date.to_string(alloc)?;
     literal.extend_from_slice(text.as_bytes())?;
     literal.extend_from_slice(b"\")")?;
     Ok(literal)

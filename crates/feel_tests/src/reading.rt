@@ -47,8 +47,14 @@ pub fn read_value(alloc: Global, kind: Kind, text: &str) -> Result<Value, CellFa
     ensures refused { IfErr result (Refuses (SpellsValue kind text.now)) }
     ensures place { IfErr result (λ fault. fault.at ≤ length text.now) }
 {
-    match value_of(alloc, kind, text.as_bytes()) {
-        Ok(value) => Ok(value),
+    match literal_at(alloc, kind, text.as_bytes()) {
+        Ok((value, rest)) => {
+            if is_blank(rest) {
+                Ok(value)
+            } else {
+                Err(Refusal::at(rest, CellCause::Trailing).fault_in(text))
+            }
+        }
         Err(refusal) => Err(refusal.fault_in(text)),
     }
 }
@@ -122,28 +128,17 @@ fn list_at(alloc: Global, kind: Kind, text: &[u8]) -> Result<(Tests, &[u8]), Ref
         rest = after_test;
     }
     match after_symbol(rest, Symbol::Comma) {
-        Some(after_comma) => Err(too_many(after_comma)),
+        Some(after_comma) => {
+            // If the text ends after the comma, a test is missing, and there is not one too many.
+            let cause = if is_blank(after_comma) {
+                CellCause::Token
+            } else {
+                CellCause::TooMany
+            };
+            Err(Refusal::at(after_comma, cause))
+        }
         None => Ok((tests, rest)),
     }
-}
-
-// If the text ends after the comma, a test is missing, and there is not one too many.
-fn too_many(text: &[u8]) -> Refusal {
-    if is_blank(text) {
-        Refusal::at(text, CellCause::Token)
-    } else {
-        Refusal::at(text, CellCause::TooMany)
-    }
-}
-
-fn value_of(alloc: Global, kind: Kind, text: &[u8]) -> Result<Value, Refusal>
-    ensures ok { IfOk result (SpellsValue kind text.now) }
-    ensures kind { IfOk result (λ value. kind_of value ≡ kind) }
-    ensures refused { IfErr result (Denies (SpellsValue kind text.now)) }
-{
-    let (value, rest) = literal_at(alloc, kind, text)?;
-    blank_end(rest)?;
-    Ok(value)
 }
 
 fn blank_end(text: &[u8]) -> Result<(), Refusal>

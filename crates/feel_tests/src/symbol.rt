@@ -56,10 +56,12 @@ impl Symbol {
         ensures { result
             ≡ find (λ symbol. starts_with nat_eq bytes.now (symbol_text symbol)) symbols }
     {
-        SYMBOLS
-            .iter()
-            .copied()
-            .find(|symbol| bytes.starts_with(symbol.text()))
+        for symbol in &SYMBOLS {
+            if bytes.starts_with(symbol.text()) {
+                return Some(*symbol);
+            }
+        }
+        None
     }
 
     /// Returns the bytes of the symbol.

@@ -2,7 +2,7 @@
 ghost use Rattle.std.specs.Prelude.{ℕ, Bool, List, IfOk, IfErr, OnErr};
 ghost use Rattle.feel_tests.specs.Words.{Sign, Begins};
 ghost use Rattle.feel_tests.specs.Grammar.{op_symbol, IsTest};
-ghost use Rattle.feel_tests.specs.Parts.{DeniesPart, IsStart, IsEnd, IsSpanTest};
+ghost use Rattle.feel_tests.specs.Parts.{DeniesPart, IsEnd, IsSpanTest};
 
 use crate::cell::{Op, Test};
 use crate::kind::Kind;
@@ -42,10 +42,13 @@ fn signed_test_at<'a>(
     if let Some(op) = symbol.op() {
         return comparison_at(alloc, kind, text, op, rest);
     }
-    if let Some(low_in) = symbol.start_in() {
-        return interval_at(alloc, kind, text, low_in, rest);
+    let Some(low_in) = symbol.start_in() else {
+        return Err(Refusal::at(text, CellCause::Token));
+    };
+    if !kind.has_order() {
+        return Err(Refusal::at(text, CellCause::WrongKind));
     }
-    Err(Refusal::at(text, CellCause::Token))
+    span_at(alloc, kind, low_in, rest)
 }
 
 // Reads a test from a text that begins with an operator; the text after it must begin with a
@@ -68,26 +71,7 @@ fn comparison_at<'a>(
     Ok((Test::Compare(op, value), rest))
 }
 
-// Reads a test from a text that begins with a bracket; the text after it must begin with the ends
-// of the interval.
-fn interval_at<'a>(
-    alloc: Global,
-    kind: Kind,
-    text: &[u8],
-    low_in: bool,
-    span: &'a [u8],
-) -> Result<(Test, &'a [u8]), Refusal>
-    requires { IsStart text.now low_in span.now }
-    ensures ok { IfOk result (λ found. IsTest kind text.now found.0 found.1.now) }
-    ensures refused { IfErr result (DeniesPart (IsTest kind text.now)) }
-{
-    if !kind.has_order() {
-        return Err(Refusal::at(text, CellCause::WrongKind));
-    }
-    span_at(alloc, kind, low_in, span)
-}
-
-// Reads the two ends of an interval and the closing bracket.
+// Reads the two ends of an interval and the closing bracket, from the text after its opening one.
 fn span_at(alloc: Global, kind: Kind, low_in: bool, text: &[u8]) -> Result<(Test, &[u8]), Refusal>
     ensures ok { IfOk result (λ found. IsSpanTest kind low_in text.now found.0 found.1.now) }
     ensures refused { IfErr result (DeniesPart (IsSpanTest kind low_in text.now)) }

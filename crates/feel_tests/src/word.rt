@@ -1,5 +1,5 @@
 //! The words of a cell's text, split off one at a time from the start.
-ghost use Rattle.std.specs.Prelude.{◌≡◌, ℕ, ◌≤◌, List, ◌∷◌, length, IsTrue, IfSome, IfNone, ◌↔◌};
+ghost use Rattle.std.specs.Prelude.{◌≡◌, ℕ, ◌≤◌, List, length, IsTrue, IfSome, IfNone, ◌↔◌};
 ghost use Rattle.feel_tests.specs.Words.{is_white, skip_white, is_name_start, is_name_byte, IsBlank, Sign, Begins};
 ghost use Rattle.std.specs.List.{prefix_len};
 ghost use Rattle.feel_tests.specs.declared.symbol.Symbol.{Symbol};
@@ -24,7 +24,7 @@ pub fn first_token(text: &[u8]) -> Token<'_>
     ensures { IsToken text.now result }
 {
     let bytes = skip_white(text);
-    if let Some(inside) = after_quote(bytes) {
+    if let [b'"', inside @ ..] = bytes {
         return Token::Quote(inside);
     }
     let len = name_len(bytes);
@@ -40,16 +40,6 @@ pub fn first_token(text: &[u8]) -> Token<'_>
     match Symbol::at_front(bytes) {
         Some(symbol) => Token::Sign(symbol, &bytes[symbol.text().len()..]),
         None => Token::Nothing,
-    }
-}
-
-fn after_quote(bytes: &[u8]) -> Option<&[u8]>
-    ensures some { IfSome result (λ inside. bytes.now ≡ 34 ∷ inside.now) }
-    ensures none { IfNone result ((inside : List ℕ) → ¬ (bytes.now ≡ 34 ∷ inside)) }
-{
-    match bytes {
-        [b'"', inside @ ..] => Some(inside),
-        _ => None,
     }
 }
 

@@ -7,3 +7,9 @@ overflow_sub-result-2 c = grind (arith, common_steps)
 
 pub overflow_sub-result : goal.overflow_sub-result
 overflow_sub-result c = grind (arith, common_steps)
+
+pub overflow_add-result : goal.overflow_add-result
+overflow_add-result c = grind (arith, common_steps)
+
+pub overflow_mul-result : goal.overflow_mul-result
+overflow_mul-result c = grind (arith, common_steps)

@@ -1,42 +1,35 @@
-use Rattle.std.proofs.lemmas.Grind.{common_steps}
 use Rattle.std.proofs.Common.{arith}
-use Rattle.feel_tests.proofs.OneDate.{ymd_read}
+use Rattle.std.proofs.lemmas.Grind.{common_steps}
+use Rattle.feel_tests.proofs.OneDate.{ymd_read, ymd_year, ymd_month, ymd_place}
 use Rattle.feel_tests.proofs.dates.ymd_of.Goals as goal
 
 pub returns-clause-some : goal.returns-clause-some
 returns-clause-some c =
-    let century = c.in_ok-century.ensures.some in
     let year = c.in_ok-year.ensures.some in
     let month = c.in_ok-month.ensures.some in
     let place = c.in_ok-place.ensures.some in
-    (ymd_read c.args.text.now c.in_ok-century.century c.in_ok-year.year c.in_ok-month.month c.in_ok-place.place (omega arith) year.0 century.1 century.2 year.1 year.2 c.if-dash-ne45.false month.1 month.2 c.if-hyphen-ne45.false place.1 place.2, omega (arith, century.0, year.0), month.0, place.0)
+    (ymd_read c.args.text.now c.in_ok-year.year c.in_ok-month.month c.in_ok-place.place (grind (arith, common_steps)) year c.if-dash-ne45.false month.1 month.2 c.if-hyphen-ne45.false place.1 place.2, year.year_in, month.0, place.0)
+
+pub returns-in_err-place-clause-none : goal.returns-in_err-place-clause-none
+returns-in_err-place-clause-none c =
+    rw c.from_residual-in_err-place.ensures (λ year month place range m p e. c.in_err-place.ensures.none place p (ymd_place c.args.text.now year month place e))
 
 pub returns-in_err-place-clause-some : goal.returns-in_err-place-clause-some
-returns-in_err-place-clause-some c = grind (arith, common_steps)
+returns-in_err-place-clause-some c = rw c.from_residual-in_err-place.ensures tt
 
 pub returns-in_err-month-clause-none : goal.returns-in_err-month-clause-none
-returns-in_err-month-clause-none c = grind (arith, common_steps)
+returns-in_err-month-clause-none c =
+    rw c.from_residual-in_err-month.ensures (λ year month place range m p e. c.in_err-month.ensures.none month m (ymd_month c.args.text.now year month place e))
 
 pub returns-in_err-month-clause-some : goal.returns-in_err-month-clause-some
-returns-in_err-month-clause-some c = grind (arith, common_steps)
+returns-in_err-month-clause-some c = rw c.from_residual-in_err-month.ensures tt
 
 pub returns-in_err-year-clause-none : goal.returns-in_err-year-clause-none
-returns-in_err-year-clause-none c = grind (arith, common_steps)
+returns-in_err-year-clause-none c =
+    rw c.from_residual.ensures (λ year month place range m p e. c.in_err-year.ensures.none year (ymd_year c.args.text.now year month place range e))
 
 pub returns-in_err-year-clause-some : goal.returns-in_err-year-clause-some
-returns-in_err-year-clause-some c = grind (arith, common_steps)
-
-pub returns-in_err-century-clause-none : goal.returns-in_err-century-clause-none
-returns-in_err-century-clause-none c = grind (arith, common_steps)
-
-pub overflow_cast-result-2 : goal.overflow_cast-result-2
-overflow_cast-result-2 c = grind (arith, common_steps)
-
-pub overflow_cast-result : goal.overflow_cast-result
-overflow_cast-result c = grind (arith, common_steps)
-
-pub returns-in_err-century-clause-some : goal.returns-in_err-century-clause-some
-returns-in_err-century-clause-some c = grind (arith, common_steps)
+returns-in_err-year-clause-some c = rw c.from_residual.ensures tt
 
 pub returns-then-dash-ne45-clause-none : goal.returns-then-dash-ne45-clause-none
 returns-then-dash-ne45-clause-none c = grind (arith, common_steps)

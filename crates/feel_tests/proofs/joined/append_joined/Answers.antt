@@ -13,3 +13,6 @@ bounds-items-0 g c = grind (arith, common_steps)
 
 pub slice_bounds-others-count : goal.slice_bounds-others-count
 slice_bounds-others-count g c = grind (arith, common_steps)
+
+pub scale_in_slice-others : goal.scale_in_slice-others
+scale_in_slice-others g c = grind (arith, common_steps)

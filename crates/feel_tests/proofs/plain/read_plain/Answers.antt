@@ -34,3 +34,6 @@ returns-in-Text-clause-ok c = grind (arith, common_steps)
 
 pub returns-in-Flag-clause-ok : goal.returns-in-Flag-clause-ok
 returns-in-Flag-clause-ok c = grind (arith, common_steps)
+
+pub returns-in-Day-clause-refused : goal.returns-in-Day-clause-refused
+returns-in-Day-clause-refused c = grind (arith, common_steps)

@@ -7,3 +7,9 @@ loop-value-preserved c = grind (arith, common_steps)
 
 pub returns : goal.returns
 returns c = grind (arith, common_steps)
+
+pub bounds-values-value-index : goal.bounds-values-value-index
+bounds-values-value-index c = grind (arith, common_steps)
+
+pub offset_bounds-values-value-index : goal.offset_bounds-values-value-index
+offset_bounds-values-value-index c = grind (arith, common_steps)

@@ -7,3 +7,12 @@ returns-then-len-gt0-clause-value c = grind (arith, common_steps)
 
 pub returns-else-len-gt0-clause-value : goal.returns-else-len-gt0-clause-value
 returns-else-len-gt0-clause-value c = grind (arith, common_steps)
+
+pub bounds-bytes-0 : goal.bounds-bytes-0
+bounds-bytes-0 c = grind (arith, common_steps)
+
+pub slice_bounds-unsigned-count : goal.slice_bounds-unsigned-count
+slice_bounds-unsigned-count c = grind (arith, common_steps)
+
+pub slice_bounds-unsigned-start : goal.slice_bounds-unsigned-start
+slice_bounds-unsigned-start c = grind (arith, common_steps)

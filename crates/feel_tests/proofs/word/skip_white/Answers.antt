@@ -13,3 +13,9 @@ loop-rest-smaller c = grind (arith, common_steps)
 
 pub bounds-rest-0 : goal.bounds-rest-0
 bounds-rest-0 c = grind (arith, common_steps)
+
+pub slice_bounds-tail-count : goal.slice_bounds-tail-count
+slice_bounds-tail-count c = grind (arith, common_steps)
+
+pub slice_bounds-tail-start : goal.slice_bounds-tail-start
+slice_bounds-tail-start c = grind (arith, common_steps)

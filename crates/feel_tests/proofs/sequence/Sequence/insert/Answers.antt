@@ -4,3 +4,6 @@ use Rattle.feel_tests.proofs.sequence.Sequence.insert.Goals as goal
 
 pub returns-clause-ok : goal.returns-clause-ok
 returns-clause-ok g c = grind (arith, common_steps)
+
+pub insert-requires : goal.insert-requires
+insert-requires g c = grind (arith, common_steps)
