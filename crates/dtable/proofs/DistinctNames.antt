@@ -9,13 +9,13 @@ use Rattle.std.proofs.lemmas.List.Kept.{AllPairs-cons}
 use Rattle.std.proofs.lemmas.List.Quantifiers.{all_pairs_push}
 use Rattle.std.proofs.lemmas.Slice.Eq.{bytes_eq-Decides}
 use Rattle.toml.specs.Data.{Data, Items, no_items, item}
-use Rattle.dtable.specs.declared.table.InputData.{InputData}
-use Rattle.dtable.specs.declared.table.Output.{Output}
-use Rattle.dtable.specs.declared.table.Table.{Table}
+use Rattle.tables.specs.declared.table.InputData.{InputData}
+use Rattle.tables.specs.declared.table.Output.{Output}
+use Rattle.tables.specs.declared.table.Table.{Table}
 use Rattle.dtable.specs.Document.{EachAfter}
 use Rattle.dtable.specs.NameForm.{family_names, is_among, names_taken, reserved_names}
-use Rattle.dtable.specs.Names.{accumulator_names, claim_names, names_of}
-use Rattle.dtable.specs.Plan.{PlanParts, AreDistinct, keeps_families, plan_names}
+use Rattle.tables.specs.Names.{accumulator_names, claim_names, names_of}
+use Rattle.tables.specs.Plan.{PlanParts, AreDistinct, keeps_families, plan_names}
 use Rattle.dtable.specs.PlanFile.{IsField, IsOutput, IsPlanDocument, IsTable}
 use Rattle.dtable.specs.Scope.{data_names, output_names, seen_names, seen_of, taken_names}
 use Rattle.dtable.proofs.ReadNames.{is_among-append, is_among_taken, output_names-seen}

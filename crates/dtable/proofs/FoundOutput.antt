@@ -7,13 +7,13 @@ use Rattle.std.proofs.lemmas.List.Quantifiers.{position-Some}
 use Rattle.std.proofs.lemmas.Option.{same_Some, slice_get-get_or, slice_get_within, get_or_from_slice_get}
 use Rattle.std.proofs.lemmas.Slice.Eq.{bytes_eq-Decides}
 use Rattle.feel_tests.specs.declared.kind.Kind.TheVariants as kinds
-use Rattle.dtable.specs.declared.table.InputData.{InputData}
-use Rattle.dtable.specs.declared.table.Origin.{Origin}
-use Rattle.dtable.specs.declared.table.Origin.TheVariants.{Given, Earlier}
-use Rattle.dtable.specs.declared.table.Output.{Output}
-use Rattle.dtable.specs.declared.table.Table.{Table}
-use Rattle.dtable.specs.Environment.{or_else}
-use Rattle.dtable.specs.Plan.{gives_one}
+use Rattle.tables.specs.declared.table.InputData.{InputData}
+use Rattle.tables.specs.declared.table.Origin.{Origin}
+use Rattle.tables.specs.declared.table.Origin.TheVariants.{Given, Earlier}
+use Rattle.tables.specs.declared.table.Output.{Output}
+use Rattle.tables.specs.declared.table.Table.{Table}
+use Rattle.tables.specs.Environment.{or_else}
+use Rattle.tables.specs.Plan.{gives_one}
 use Rattle.dtable.specs.Scope.{seen_of, is_single_of, earlier_origin, origin_of}
 use Rattle.dtable.proofs.ReadNames.{position-single}
 

@@ -6,12 +6,12 @@ use Rattle.std.proofs.lemmas.List.Elements.{All-nil, All-cons}
 use Rattle.toml.specs.Data.{Data, Items, no_items, item, get}
 use Rattle.feel_tests.specs.declared.kind.Kind.{Kind}
 use Rattle.feel_tests.specs.declared.value.Value.{Value}
-use Rattle.dtable.specs.declared.table.InputData.{InputData}
-use Rattle.dtable.specs.declared.table.Output.{Output}
-use Rattle.dtable.specs.declared.table.Table.{Table}
+use Rattle.tables.specs.declared.table.InputData.{InputData}
+use Rattle.tables.specs.declared.table.Output.{Output}
+use Rattle.tables.specs.declared.table.Table.{Table}
 use Rattle.dtable.specs.Document.{item_count, Each, EachAfter, Optionally}
-use Rattle.dtable.specs.Limits.{priority_limit}
-use Rattle.dtable.specs.Plan.{PlanParts, IsTableWithin, IsWithin}
+use Rattle.tables.specs.Limits.{priority_limit}
+use Rattle.tables.specs.Plan.{PlanParts, IsTableWithin, IsWithin}
 use Rattle.dtable.specs.PlanFile.{ArePriorities, IsField, IsInput, IsOutput, IsPlanDocument, IsPriority, IsRule, IsTable}
 use Rattle.dtable.specs.Scope.{SeenOutput, seen_of}
 

@@ -5,14 +5,14 @@ use Rattle.std.proofs.lemmas.List.{take_rest, length-map}
 use Rattle.std.specs.Str.{bytes_eq}
 use Rattle.feel_tests.specs.declared.kind.Kind.{Kind}
 use Rattle.feel_tests.specs.declared.kind.Kind.TheVariants as kinds
-use Rattle.dtable.specs.declared.hit.Hit.{Hit}
-use Rattle.dtable.specs.declared.hit.Hit.TheVariants as hits
-use Rattle.dtable.specs.declared.table.InputData.{InputData}
-use Rattle.dtable.specs.declared.table.Output.{Output}
-use Rattle.dtable.specs.declared.table.Table.{Table}
+use Rattle.tables.specs.declared.hit.Hit.{Hit}
+use Rattle.tables.specs.declared.hit.Hit.TheVariants as hits
+use Rattle.tables.specs.declared.table.InputData.{InputData}
+use Rattle.tables.specs.declared.table.Output.{Output}
+use Rattle.tables.specs.declared.table.Table.{Table}
 use Rattle.feel_tests.specs.Words.{is_name_start, is_name_byte}
 use Rattle.dtable.specs.NameForm.{family_names, is_among, names_taken, reserved_names, has_name_form}
-use Rattle.dtable.specs.Plan.{gives_one, same_kind, read_kind_of}
+use Rattle.tables.specs.Plan.{gives_one, same_kind, read_kind_of}
 use Rattle.dtable.specs.Scope.{SeenOutput, seen_output, seen_of, data_names, output_names, seen_names, taken_names, is_single_of}
 
 or_assoc : (a b c : Bool) → (a || (b || c)) ≡ ((a || b) || c)

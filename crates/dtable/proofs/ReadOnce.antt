@@ -8,19 +8,19 @@ use Rattle.faults.specs.declared.role_key.RoleKey.{RoleKey}
 use Rattle.faults.specs.declared.role_key.RoleKey.TheVariants as keys
 use Rattle.faults.specs.RoleKeys.{key_of}
 use Rattle.feel_tests.specs.Cell.{SpellsOneCell, SpellsOneValue}
-use Rattle.dtable.specs.declared.hit.Hit.{Hit}
-use Rattle.dtable.specs.declared.roles.FamilyRoles.{FamilyRoles}
-use Rattle.dtable.specs.declared.roles.Roles.{Roles}
-use Rattle.dtable.specs.declared.roles.Source.{Source}
-use Rattle.dtable.specs.declared.roles.Source.TheVariants.{Literal, Input as InputSource, Output as OutputSource}
+use Rattle.tables.specs.declared.hit.Hit.{Hit}
+use Rattle.tables.specs.declared.roles.FamilyRoles.{FamilyRoles}
+use Rattle.tables.specs.declared.roles.Roles.{Roles}
+use Rattle.tables.specs.declared.roles.Source.{Source}
+use Rattle.tables.specs.declared.roles.Source.TheVariants.{Literal, Input as InputSource, Output as OutputSource}
 use Rattle.dtable.specs.declared.reading.roles.RoleKind.{RoleKind}
-use Rattle.dtable.specs.declared.table.InputData.{InputData}
-use Rattle.dtable.specs.declared.table.Input.{Input}
-use Rattle.dtable.specs.declared.table.Origin.TheVariants.{Given, Earlier}
-use Rattle.dtable.specs.declared.table.Output.{Output}
-use Rattle.dtable.specs.declared.table.Rule.{Rule}
-use Rattle.dtable.specs.declared.table.Table.{Table}
-use Rattle.dtable.specs.Plan.{PlanParts, has_families, keeps_families}
+use Rattle.tables.specs.declared.table.InputData.{InputData}
+use Rattle.tables.specs.declared.table.Input.{Input}
+use Rattle.tables.specs.declared.table.Origin.TheVariants.{Given, Earlier}
+use Rattle.tables.specs.declared.table.Output.{Output}
+use Rattle.tables.specs.declared.table.Rule.{Rule}
+use Rattle.tables.specs.declared.table.Table.{Table}
+use Rattle.tables.specs.Plan.{PlanParts, has_families, keeps_families}
 use Rattle.dtable.specs.PlanFile.{IsEntry, IsCellUnder, IsRule, AreRules, IsTable, AreTables, AreTablesOf, AreNames, IsPlanDocument, SpellsOnePlan}
 use Rattle.dtable.specs.RoleFile.{IsSource, IsRole, AreFamilyRoles, AreLimits, AreRoles, AreRemarks, asked_by, asked_kind}
 use Rattle.dtable.specs.Scope.{SeenOutput, seen_of, taken_names}

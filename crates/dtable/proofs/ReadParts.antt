@@ -1,5 +1,5 @@
 -- The parts of a plan's document: each entry denotes at most one element, and some denote none.
-use Rattle.std.proofs.Common.{◌≡◌, ℕ, pos, Bool, true, false, if◌then◌else◌, List, [], map, codes, Option, Some, None, Result, Ok, Err, refl, sym, ap, subst, ◌∙◌}
+use Rattle.std.proofs.Common.{◌≡◌, ℕ, ◌<◌, ◌≤◌, pos, Bool, true, false, if◌then◌else◌, List, [], length, map, codes, Option, Some, None, Result, Ok, Err, refl, sym, ap, subst, ◌∙◌, arith}
 use Rattle.std.specs.Str.{bytes_eq}
 use Rattle.std.proofs.lemmas.Bool.{false≢true}
 use Rattle.std.proofs.lemmas.Option.{same_Some}
@@ -8,19 +8,20 @@ use Rattle.feel_tests.specs.declared.kind.Kind.{Kind}
 use Rattle.feel_tests.specs.declared.kind.Kind.TheVariants as kinds
 use Rattle.feel_tests.specs.declared.cell.Cell.{Cell}
 use Rattle.feel_tests.specs.declared.value.Value.{Value}
-use Rattle.feel_tests.specs.Cell.{SpellsValue, SpellsOneCell, SpellsOneValue}
-use Rattle.dtable.specs.declared.hit.Hit.{Hit}
-use Rattle.dtable.specs.declared.hit.Hit.TheVariants as hits
-use Rattle.dtable.specs.declared.table.InputData.{InputData}
-use Rattle.dtable.specs.declared.table.Input.{Input}
-use Rattle.dtable.specs.declared.table.Origin.{Origin}
-use Rattle.dtable.specs.declared.table.Output.{Output}
-use Rattle.dtable.specs.declared.table.Table.{Table}
-use Rattle.dtable.specs.Document.{Optionally}
-use Rattle.dtable.specs.NameForm.{is_among, names_taken}
-use Rattle.dtable.specs.Names.{names_of}
+use Rattle.feel_tests.specs.Cell.{SpellsCell, SpellsValue, SpellsOneCell, SpellsOneValue}
+use Rattle.tables.specs.declared.hit.Hit.{Hit}
+use Rattle.tables.specs.declared.hit.Hit.TheVariants as hits
+use Rattle.tables.specs.declared.table.InputData.{InputData}
+use Rattle.tables.specs.declared.table.Input.{Input}
+use Rattle.tables.specs.declared.table.Origin.{Origin}
+use Rattle.tables.specs.declared.table.Output.{Output}
+use Rattle.tables.specs.declared.table.Table.{Table}
+use Rattle.dtable.specs.Document.{string_at, Optionally}
+use Rattle.dtable.specs.NameForm.{has_name_form, is_among, names_taken}
+use Rattle.tables.specs.Limits.{name_limit_bytes}
+use Rattle.tables.specs.Names.{names_of}
 use Rattle.faults.specs.declared.plan_fault.PlanFault.{PlanFault}
-use Rattle.dtable.specs.Plan.{PlanParts, has_families, is_ranked, read_kind_of}
+use Rattle.tables.specs.Plan.{PlanParts, has_families, is_ranked, read_kind_of}
 use Rattle.dtable.specs.Reading.{Reads}
 use Rattle.dtable.specs.PlanFile.{IsEntry, is_listed, kind_word, hit_word, IsNamed, IsNewlyNamed, IsOfKind, IsLiteral, IsCellOf, IsCell, IsField, AreFields, IsInput, IsPriority, ArePriorities, IsOutput, IsHit, AreInputs, AreOutputs, IsTable, AreTables, AreNames, AreTablesOf, IsPlanDocument, IsVersionOf}
 use Rattle.dtable.specs.Scope.{SeenOutput, seen_of, seen_output, origin_of, kind_at, taken_names}
@@ -77,6 +78,18 @@ IsNamed-same entry a b h k = same_Some a b (sym h.written ∙ k.written)
 
 pub IsOfKind-same : (entry : Data) (k l : Kind) → IsOfKind entry k → IsOfKind entry l → k ≡ l
 IsOfKind-same entry k l a b = kind_word-same k l (same_Some (kind_word k) (kind_word l) (sym a ∙ b))
+
+-- a text that has not the form or the length of a name
+pub IsNamed-formless : (entry : Data) (text : List ℕ) → string_at (codes "name") entry ≡ Some text → has_name_form text ≡ false → (name : List ℕ) → ¬ IsNamed entry name
+IsNamed-formless entry text read formless name h =
+    let same : name ≡ text = same_Some name text (sym h.written ∙ read) in
+    false≢true (sym formless ∙ subst (λ n. has_name_form n ≡ true) same h.form)
+
+pub IsNamed-long : (entry : Data) (text : List ℕ) → string_at (codes "name") entry ≡ Some text → name_limit_bytes < length text → (name : List ℕ) → ¬ IsNamed entry name
+IsNamed-long entry text read long name h =
+    let same : name ≡ text = same_Some name text (sym h.written ∙ read) in
+    let short : length text ≤ name_limit_bytes = subst (λ n. length n ≤ name_limit_bytes) same h.short in
+    omega (arith, short, long)
 
 -- a name in use is not new
 pub IsNewlyNamed-taken : (taken : List (List ℕ)) (entry : Data) (name : List ℕ) → IsNamed entry name → is_among name taken ≡ true → (other : List ℕ) → ¬ IsNewlyNamed taken entry other
@@ -194,6 +207,12 @@ pub IsLiteral-refused : (kind : Kind) (d : Data) (text : List ℕ) → as_str d 
 IsLiteral-refused kind d text read none v h =
     let same : h.text ≡ text = same_Some h.text text (sym (ap as_str h.written) ∙ read) in
     none v (rw same at h.spelled)
+
+-- a string that does not denote a cell
+pub IsCellOf-refused : (kind : Kind) (d : Data) (text : List ℕ) → as_str d ≡ Some text → ((cell : Cell) → ¬ SpellsCell kind text cell) → (cell : Cell) → ¬ IsCellOf kind d cell
+IsCellOf-refused kind d text read none cell h =
+    let same : h.text ≡ text = same_Some h.text text (sym (ap as_str h.written) ∙ read) in
+    none cell (rw same at h.spelled)
 
 -- a cell of the kind of its origin
 pub IsCell-made : (names : List InputData) (earlier : List (List SeenOutput)) (origin : Origin) (kind : Kind) → kind_at names earlier origin ≡ Some kind → (d : Data) (cell : Cell) → IsCellOf kind d cell → IsCell names earlier origin d cell

@@ -17,29 +17,29 @@ use Rattle.faults.specs.declared.plan_fault.PlanCause.TheVariants.{OutOfMemory}
 use Rattle.faults.specs.declared.role_key.RoleKey.{RoleKey}
 use Rattle.faults.specs.declared.role_key.RoleKey.TheVariants as keys
 use Rattle.faults.specs.RoleKeys.{key_of}
-use Rattle.dtable.specs.Limits.{plan_limit_bytes}
-use Rattle.dtable.specs.Names.{names_of}
+use Rattle.tables.specs.Limits.{plan_limit_bytes}
+use Rattle.tables.specs.Names.{names_of}
 use Rattle.dtable.specs.Reading.{Reads}
 use Rattle.feel_tests.specs.declared.kind.Kind.{Kind}
 use Rattle.feel_tests.specs.declared.kind.Kind.TheVariants as kinds
 use Rattle.feel_tests.specs.declared.value.Value.{Value}
 use Rattle.feel_tests.specs.Value.{kind_of}
-use Rattle.dtable.specs.declared.hit.Hit.{Hit}
-use Rattle.dtable.specs.declared.roles.FamilyRoles.{FamilyRoles}
-use Rattle.dtable.specs.declared.roles.Roles.{Roles}
-use Rattle.dtable.specs.declared.roles.Source.{Source}
-use Rattle.dtable.specs.declared.roles.Source.TheVariants.{Literal, Input as InputSource, Output as OutputSource}
+use Rattle.tables.specs.declared.hit.Hit.{Hit}
+use Rattle.tables.specs.declared.roles.FamilyRoles.{FamilyRoles}
+use Rattle.tables.specs.declared.roles.Roles.{Roles}
+use Rattle.tables.specs.declared.roles.Source.{Source}
+use Rattle.tables.specs.declared.roles.Source.TheVariants.{Literal, Input as InputSource, Output as OutputSource}
 use Rattle.dtable.specs.declared.reading.roles.RoleKind.{RoleKind}
-use Rattle.dtable.specs.declared.table.InputData.{InputData}
-use Rattle.dtable.specs.declared.table.Input.{Input}
-use Rattle.dtable.specs.declared.table.Origin.{Origin}
-use Rattle.dtable.specs.declared.table.Origin.TheVariants.{Given, Earlier}
-use Rattle.dtable.specs.declared.table.Output.{Output}
-use Rattle.dtable.specs.declared.table.Rule.{Rule}
-use Rattle.dtable.specs.declared.table.Table.{Table}
+use Rattle.tables.specs.declared.table.InputData.{InputData}
+use Rattle.tables.specs.declared.table.Input.{Input}
+use Rattle.tables.specs.declared.table.Origin.{Origin}
+use Rattle.tables.specs.declared.table.Origin.TheVariants.{Given, Earlier}
+use Rattle.tables.specs.declared.table.Output.{Output}
+use Rattle.tables.specs.declared.table.Rule.{Rule}
+use Rattle.tables.specs.declared.table.Table.{Table}
 use Rattle.dtable.specs.Document.{optional_array_at, Optionally, Each, EachAfter, EachUnder}
-use Rattle.dtable.specs.Environment.{or_else}
-use Rattle.dtable.specs.Plan.{PlanParts, IsPlan, same_kind, has_kind, gives_one, read_kind_of, is_known, are_known, entry_fits, rule_fits, is_ranked, satisfies_constraints, default_fits, some_output, source_fits, remarks_fit, family_roles_fit, roles_fit, has_families, keeps_families}
+use Rattle.tables.specs.Environment.{or_else}
+use Rattle.tables.specs.Plan.{PlanParts, IsPlan, same_kind, has_kind, gives_one, read_kind_of, is_known, are_known, entry_fits, rule_fits, is_ranked, satisfies_constraints, default_fits, some_output, source_fits, remarks_fit, family_roles_fit, roles_fit, has_families, keeps_families}
 use Rattle.dtable.specs.PlanFile.{IsLiteral, IsEntry, IsInput, IsOutput, IsRule, IsCellUnder, AreFields, AreNames, IsTable, AreTables, AreTablesOf, IsPlanDocument, IsPlanText, IsVersionOf}
 use Rattle.dtable.specs.RoleFile.{IsSource, IsRole, AreFamilyRoles, AreRoles, AreRemarks, asked_by, asked_kind, lists_texts}
 use Rattle.dtable.specs.Scope.{SeenOutput, seen_output, seen_of, earlier_origin, kind_at}

@@ -2,7 +2,7 @@
 use Rattle.std.proofs.Common.{◌≡◌, ℕ, Bool, true, false, List, Option, Some, None, Result, Ok, Err, IfOk, OnOk, OnErr, is_some, subst, sym, ◌∙◌}
 use Rattle.std.proofs.lemmas.Bool.{false≢true}
 use Rattle.std.proofs.lemmas.Option.{same_Some}
-use Rattle.toml.specs.Data.{Data, string, integer, float, boolean, datetime, array, table, as_table}
+use Rattle.toml.specs.Data.{Data, string, integer, float, boolean, datetime, array, table, as_str, as_table}
 use Rattle.feel_tests.specs.declared.kind.Kind.{Kind}
 use Rattle.feel_tests.specs.declared.value.Value.{Value}
 use Rattle.feel_tests.specs.Cell.{SpellsValue, SpellsOneValue}
@@ -10,18 +10,19 @@ use Rattle.feel_tests.specs.Value.{kind_of}
 use Rattle.faults.specs.declared.plan_fault.PlanFault.{PlanFault}
 use Rattle.faults.specs.declared.role_key.RoleKey.{RoleKey}
 use Rattle.faults.specs.RoleKeys.{key_of}
-use Rattle.dtable.specs.declared.roles.FamilyRoles.{FamilyRoles}
-use Rattle.dtable.specs.declared.roles.Roles.{Roles}
-use Rattle.dtable.specs.declared.roles.Source.{Source}
-use Rattle.dtable.specs.declared.roles.Source.TheVariants.{Literal, Input, Output}
+use Rattle.tables.specs.declared.roles.FamilyRoles.{FamilyRoles}
+use Rattle.tables.specs.declared.roles.Roles.{Roles}
+use Rattle.tables.specs.declared.roles.Source.{Source}
+use Rattle.tables.specs.declared.roles.Source.TheVariants.{Literal, Input, Output}
 use Rattle.dtable.specs.declared.reading.roles.RoleKind.{RoleKind}
-use Rattle.dtable.specs.declared.table.InputData.{InputData}
-use Rattle.dtable.specs.declared.table.Origin.{Origin}
-use Rattle.dtable.specs.declared.table.Origin.TheVariants.{Given, Earlier}
+use Rattle.tables.specs.declared.table.InputData.{InputData}
+use Rattle.tables.specs.declared.table.Origin.{Origin}
+use Rattle.tables.specs.declared.table.Origin.TheVariants.{Given, Earlier}
 use Rattle.dtable.specs.Document.{string_at}
 use Rattle.dtable.specs.Reading.{Reads}
-use Rattle.dtable.specs.RoleFile.{IsSource, IsNamedSource, SpellsNone, IsRole, AreFamilyRoles, AreLimits, AreRoles, Meets, asked_by, asked_kind}
+use Rattle.dtable.specs.RoleFile.{IsSource, IsNamedSource, SpellsNone, IsRole, AreFamilyRoles, AreLimits, AreRoles, Meets, asked_by, asked_kind, AreRemarks, lists_texts}
 use Rattle.dtable.specs.Scope.{SeenOutput, origin_of, kind_at}
+use Rattle.dtable.proofs.Exits.{same_text}
 
 module _ (names : List InputData) (earlier : List (List SeenOutput)) where
   -- a name without a meaning, or of a value of another kind
@@ -100,3 +101,9 @@ module _ (names : List InputData) (earlier : List (List SeenOutput)) where
   no_table families (datetime t) none r h = let clash = h.cover.written in cc
   no_table families (array ds) none r h = let clash = h.cover.written in cc
   no_table families (table ms) none r h = false≢true (sym none)
+
+-- a name that lists no texts
+pub AreRemarks-unlisted : (earlier : List (List SeenOutput)) (d : Data) (text : List ℕ) → as_str d ≡ Some text → lists_texts earlier text ≡ false → (name : List ℕ) → ¬ AreRemarks earlier d name
+AreRemarks-unlisted earlier d text read unlisted name h =
+    let same : name ≡ text = sym (same_text d text name read h.written) in
+    false≢true (sym unlisted ∙ subst (λ n. lists_texts earlier n ≡ true) same h.lists)

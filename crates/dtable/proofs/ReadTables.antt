@@ -1,22 +1,22 @@
 -- Entries and parts that make inputs, outputs, rules or a table meaningless.
-use Rattle.std.proofs.Common.{◌≡◌, ℕ, ◌+◌, ◌<◌, true, false, List, [], ◌∷◌, ◌++◌, length, map, codes, Some, take, get_or, sym, ◌∙◌, arith}
+use Rattle.std.proofs.Common.{◌≡◌, ℕ, ◌+◌, ◌<◌, ◌≤◌, true, false, List, [], ◌∷◌, ◌++◌, length, map, codes, Some, take, get_or, subst, sym, ◌∙◌, arith}
 use Rattle.std.proofs.lemmas.Bool.{false≢true}
 use Rattle.std.proofs.lemmas.Option.{same_Some}
-use Rattle.std.proofs.lemmas.List.{map-id}
+use Rattle.std.proofs.lemmas.List.{map-id, take_all}
 use Rattle.toml.specs.Data.{Data, Items, get}
 use Rattle.toml.specs.View.{view, items_view}
 use Rattle.toml.specs.declared.value.Value.{Value as Entry}
 use Rattle.feel_tests.specs.declared.kind.Kind.{Kind}
 use Rattle.feel_tests.specs.declared.value.Value.{Value}
 use Rattle.feel_tests.specs.Cell.{SpellsOneCell, SpellsOneValue}
-use Rattle.dtable.specs.declared.hit.Hit.{Hit}
-use Rattle.dtable.specs.declared.table.InputData.{InputData}
-use Rattle.dtable.specs.declared.table.Input.{Input}
-use Rattle.dtable.specs.declared.table.Output.{Output}
-use Rattle.dtable.specs.declared.table.Rule.{Rule}
-use Rattle.dtable.specs.declared.table.Table.{Table}
-use Rattle.dtable.specs.Document.{array_at, item_count, EachAfter}
-use Rattle.dtable.specs.Plan.{satisfies_constraints}
+use Rattle.tables.specs.declared.hit.Hit.{Hit}
+use Rattle.tables.specs.declared.table.InputData.{InputData}
+use Rattle.tables.specs.declared.table.Input.{Input}
+use Rattle.tables.specs.declared.table.Output.{Output}
+use Rattle.tables.specs.declared.table.Rule.{Rule}
+use Rattle.tables.specs.declared.table.Table.{Table}
+use Rattle.dtable.specs.Document.{array_at, item_count, EachAfter, EachUnder}
+use Rattle.tables.specs.Plan.{satisfies_constraints}
 use Rattle.dtable.specs.PlanFile.{IsPriority, ArePriorityEntries, IsRow, IsHit, IsInput, IsOutput, IsRule, AreInputs, AreOutputs, AreRules, IsTable, AreTables}
 use Rattle.dtable.specs.Scope.{SeenOutput, seen_of, taken_names}
 use Rattle.dtable.proofs.Entries.{Each-none, EachAfter-more, EachAfter-none, EachUnder-none, EachUnder-count}
@@ -66,6 +66,13 @@ module _ {C A : Type 0} (R : C → Data → A → Type 0) where
 
   pub IsRow-length : (cs : List C) (key : List ℕ) (rule : Data) (n : ℕ) → n ≡ length cs → ((ds : Items) → array_at key rule ≡ Some ds → item_count ds ≡ n → ⊥) → (xs : List A) → ¬ IsRow R cs key rule xs
   IsRow-length cs key rule n columns none xs h = none h.entries h.written (EachUnder-count R cs h.entries xs h.each ∙ sym columns)
+
+  -- a row of which each entry is read
+  pub IsRow-read : (cs : List C) (key : List ℕ) (rule : Data) (vs : List Entry) (k : ℕ) (xs : List A) → array_at key rule ≡ Some (items_view vs) → length vs ≡ length cs → length vs ≤ k
+      → EachUnder R (take k cs) (items_view (take k vs)) xs → IsRow R cs key rule xs
+  IsRow-read cs key rule vs k xs read lengths past each =
+      let columns = subst (λ ds. EachUnder R ds (items_view (take k vs)) xs) (take_all k cs (subst (λ n. n ≤ k) lengths past)) each in
+      record { entries = items_view vs; written = read; each = subst (λ ws. EachUnder R cs (items_view ws) xs) (take_all k vs past) columns }
 
 -- a table with a part that is wrong
 pub IsTable-no_outputs : (names : List InputData) (earlier : List (List SeenOutput)) (d : Data) (hit : Hit) → IsHit (get (codes "hit") d) hit

@@ -8,19 +8,19 @@ use Rattle.feel_tests.specs.declared.cell.Cell.{Cell}
 use Rattle.feel_tests.specs.declared.value.Value.{Value}
 use Rattle.feel_tests.specs.Cell.{SpellsCell, SpellsValue}
 use Rattle.feel_tests.specs.Value.{kind_of}
-use Rattle.dtable.specs.declared.hit.Hit.{Hit}
-use Rattle.dtable.specs.declared.hit.Hit.TheVariants.{U, A, P, F, O, R, C, Sum, Min, Max, Count}
-use Rattle.dtable.specs.declared.table.InputData.{InputData}
-use Rattle.dtable.specs.declared.table.Origin.{Origin}
-use Rattle.dtable.specs.declared.table.Input.{Input}
-use Rattle.dtable.specs.declared.table.Output.{Output}
-use Rattle.dtable.specs.declared.table.Rule.{Rule}
-use Rattle.dtable.specs.declared.table.Table.{Table}
+use Rattle.tables.specs.declared.hit.Hit.{Hit}
+use Rattle.tables.specs.declared.hit.Hit.TheVariants.{U, A, P, F, O, R, C, Sum, Min, Max, Count}
+use Rattle.tables.specs.declared.table.InputData.{InputData}
+use Rattle.tables.specs.declared.table.Origin.{Origin}
+use Rattle.tables.specs.declared.table.Input.{Input}
+use Rattle.tables.specs.declared.table.Output.{Output}
+use Rattle.tables.specs.declared.table.Rule.{Rule}
+use Rattle.tables.specs.declared.table.Table.{Table}
 use Rattle.dtable.specs.Document.{string_at, array_at, optional_array_at, item_count, Optionally, Each, EachAfter, EachUnder}
-use Rattle.dtable.specs.Limits.{plan_limit_bytes, fields_limit, tables_limit, inputs_limit, outputs_limit, rules_limit, priority_limit, name_limit_bytes}
+use Rattle.tables.specs.Limits.{plan_limit_bytes, fields_limit, tables_limit, inputs_limit, outputs_limit, rules_limit, priority_limit, name_limit_bytes}
 use Rattle.dtable.specs.NameForm.{has_name_form, is_among, names_taken}
-use Rattle.dtable.specs.Names.{names_of}
-use Rattle.dtable.specs.Plan.{PlanParts, IsVersion, is_ranked, keeps_families, satisfies_constraints, read_kind_of}
+use Rattle.tables.specs.Names.{names_of}
+use Rattle.tables.specs.Plan.{PlanParts, IsVersion, is_ranked, keeps_families, satisfies_constraints, read_kind_of}
 use Rattle.dtable.specs.RoleFile.{AreRoles}
 use Rattle.dtable.specs.Scope.{SeenOutput, seen_of, origin_of, kind_at, taken_names}
 

@@ -1,5 +1,5 @@
 -- The roles that the key `roles` of a plan's document denotes.
-use Rattle.std.specs.Prelude.{◌≡◌, ℕ, Bool, true, false, not, ◌&&◌, List, codes, Option, Some, None, IsTrue}
+use Rattle.std.specs.Prelude.{◌≡◌, ℕ, Bool, true, false, not, ◌&&◌, List, Option, Some, None, IsTrue}
 use Rattle.std.specs.List.{list_any}
 use Rattle.std.specs.Str.{bytes_eq}
 use Rattle.toml.specs.Data.{Data, string, get}
@@ -13,18 +13,18 @@ use Rattle.feel_tests.specs.declared.value.Value.{Value}
 use Rattle.feel_tests.specs.declared.value.Value.TheVariants as values
 use Rattle.feel_tests.specs.Cell.{SpellsValue}
 use Rattle.feel_tests.specs.Value.{kind_of}
-use Rattle.dtable.specs.declared.roles.FamilyRoles.{FamilyRoles}
-use Rattle.dtable.specs.declared.roles.Roles.{Roles}
-use Rattle.dtable.specs.declared.roles.Source.{Source}
-use Rattle.dtable.specs.declared.roles.Source.TheVariants.{Literal, Input, Output}
+use Rattle.tables.specs.declared.roles.FamilyRoles.{FamilyRoles}
+use Rattle.tables.specs.declared.roles.Roles.{Roles}
+use Rattle.tables.specs.declared.roles.Source.{Source}
+use Rattle.tables.specs.declared.roles.Source.TheVariants.{Literal, Input, Output}
 use Rattle.dtable.specs.declared.reading.roles.Benefits.{Benefits}
 use Rattle.dtable.specs.declared.reading.roles.RoleKind.{RoleKind}
 use Rattle.dtable.specs.declared.reading.roles.RoleKind.TheVariants.{Flag, Money, Rate, Texts}
 use Rattle.dtable.specs.declared.reading.roles.Shares.{Shares}
-use Rattle.dtable.specs.declared.table.InputData.{InputData}
-use Rattle.dtable.specs.declared.table.Origin.TheVariants.{Given, Earlier}
+use Rattle.tables.specs.declared.table.InputData.{InputData}
+use Rattle.tables.specs.declared.table.Origin.TheVariants.{Given, Earlier}
 use Rattle.dtable.specs.Document.{string_at, Optionally}
-use Rattle.dtable.specs.Plan.{same_kind}
+use Rattle.tables.specs.Plan.{same_kind}
 use Rattle.dtable.specs.Scope.{SeenOutput, origin_of, kind_at}
 
 -- what the value of a role must be

@@ -1,51 +1,23 @@
-//! Decision tables of DMN 1.4: plans, the eleven hit policies, and chains of tables.
+//! The reader of plans: the plan that a text denotes, or the first fault of the text.
 //!
-//! A `Plan` names the input data of a claim and has `Table`s in order of evaluation. `Inputs` takes
-//! a value for each name that a table reads. `Plan::value` evaluates the tables and returns an
-//! `Env`, which has the answer of each output by its name, or the first `Fault`. `Valuer` is the
-//! contract of every evaluator of a plan, and `InputClasses` that of an evaluator with classes of
-//! inputs. Cells and values come from `feel_tests`, faults and the names of roles and columns from
-//! `faults`, numbers from `fixpoint`, the reader of TOML from `toml`, and the list of the tables'
-//! answers from `smallvec`.
+//! `read_plan` answers a `Plan` of `tables`, whose other names this crate passes on. Cells and
+//! literals come from `feel_tests`, faults and the names of roles and columns from `faults`, and
+//! the reader of TOML from `toml`.
 //!
-//! Begin with `specs/Plan.antt`, which states what holds for every plan, and go on with
-//! `specs/Matching.antt`, `specs/HitPolicy.antt` and `specs/Environment.antt`, which define the
-//! value of the tables. Then read `valuer.rt`, which has the contract of `value`, and the files of
-//! `evaluation/`, one for each group of hit policies.
+//! Begin with `specs/PlanFile.antt`, which defines the plan of a text key by key, and with
+//! `specs/Scope.antt` and `specs/RoleFile.antt`. Then read `reading.rt`, which has the order of the
+//! faults and says what each file of `reading/` reads.
 #![tactic(auto)]
 
-mod answers;
-mod environment;
-mod evaluation;
-mod hit;
-mod hit_constraints;
-mod input_classes;
-mod inputs;
-mod name;
-mod output_place;
-mod plan;
 mod reading;
-mod roles;
-mod table;
-mod valuer;
 
-pub use answers::{Answers, AnswersByTable};
-pub use environment::{Answer, Env};
-pub use evaluation::matching::value_read;
-pub use evaluation::{
-    answers_by_hit, in_priority_order, lists_of, rules_agree, rules_are_ranked_once,
-    rules_have_one_priority_order, table_value,
-};
 pub use faults::{Fault, PlanCause, PlanFault};
 pub use feel_tests::Sequence;
-pub use hit::Hit;
-pub use hit_constraints::has_kind;
-pub use input_classes::InputClasses;
-pub use inputs::{Inputs, Slot};
-pub use name::{NAME_LIMIT_BYTES, Name};
-pub use output_place::OutputPlace;
-pub use plan::{Plan, all_names, has_families, has_years};
 pub use reading::{PLAN_LIMIT_BYTES, read_plan, text_spells_at_most_one_plan};
-pub use roles::{FamilyRoles, Roles, Source};
-pub use table::{Input, InputData, Origin, Output, Rule, Table};
-pub use valuer::Valuer;
+pub use tables::{
+    Answer, Answers, AnswersByTable, Env, FamilyRoles, Hit, Input, InputClasses, InputData, Inputs,
+    NAME_LIMIT_BYTES, Name, Origin, Output, OutputPlace, Plan, Roles, Rule, Slot, Source, Table,
+    Valuer, all_names, answers_by_hit, has_families, has_kind, has_years, in_priority_order,
+    lists_of, rules_agree, rules_are_ranked_once, rules_have_one_priority_order, table_value,
+    value_read,
+};

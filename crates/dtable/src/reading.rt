@@ -3,15 +3,16 @@
 //! hit policy, inputs, outputs and rules, then `roles`.
 //!
 //! `document` looks up keys in the TOML, `place` has the location of a fault, `limits` has the
-//! limits of a plan, and `scope` finds the meaning of a name. `names`, `inputs`, `outputs`,
-//! `rules`, `tables` and `roles` read the keys, and `literals` reads the strings that are cells or
-//! literals.
+//! limits of a plan, `constraints` has those of a hit policy, and `scope` finds the meaning of a
+//! name. `names`, `table_list`, `inputs`, `outputs`, `rules` and `roles` read the keys, and
+//! `literals` reads the strings that are cells or literals.
 ghost use Rattle.std.specs.Prelude.{◌≡◌, ◌≢◌, ◌≤◌, length, IfOk, IfErr};
 ghost use Rattle.toml.specs.View.{view};
-ghost use Rattle.dtable.specs.Plan.{PlanParts};
+ghost use Rattle.tables.specs.Plan.{PlanParts};
 ghost use Rattle.dtable.specs.PlanFile.{IsPlanText, IsPlanDocument, IsVersionOf, SpellsOnePlan};
 ghost use Rattle.dtable.specs.Reading.{Reads};
 
+mod constraints;
 mod document;
 mod inputs;
 mod limits;
@@ -22,9 +23,8 @@ mod place;
 mod roles;
 mod rules;
 mod scope;
-mod tables;
+mod table_list;
 
-use crate::plan::{Plan, has_families};
 use document::{read_document, required_value};
 use faults::{PlanCause, PlanFault};
 use feel_tests::{text_spells_at_most_one_cell, text_spells_at_most_one_value};
@@ -33,7 +33,8 @@ use names::read_names;
 use place::FaultLocation;
 use roles::read_roles;
 use std::alloc::Global;
-use tables::read_tables;
+use table_list::read_tables;
+use tables::{Plan, has_families};
 use toml::Value;
 
 /// Reads a plan's text: TOML in UTF-8, of at most `PLAN_LIMIT_BYTES` bytes, with the keys of a

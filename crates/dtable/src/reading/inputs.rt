@@ -13,10 +13,10 @@ use super::literals::read_cell_entry;
 use super::names::read_name;
 use super::place::FaultLocation;
 use super::scope::{kind_at, origin_of};
-use crate::table::{Input, InputData, Origin, Table};
 use faults::{Ordinal, PlanCause, PlanFault};
 use feel_tests::{Cell, Sequence};
 use std::alloc::Global;
+use tables::{Input, InputData, Origin, Table};
 use toml::Value;
 
 /// Reads the inputs of a table. Each must name a value that is known before the table.

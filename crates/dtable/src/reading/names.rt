@@ -10,12 +10,10 @@ use super::document::{check_count, optional_array, required_text};
 use super::limits::FIELDS_LIMIT;
 use super::place::FaultLocation;
 use super::scope::is_taken_field;
-use crate::name::{NAME_LIMIT_BYTES, Name};
-use crate::plan::all_names;
-use crate::table::InputData;
 use faults::{Ordinal, PlanCause, PlanFault, names};
 use feel_tests::{Kind, Sequence, is_name_byte, is_name_start};
 use std::alloc::Global;
+use tables::{InputData, NAME_LIMIT_BYTES, Name, all_names};
 use toml::Value;
 
 /// The reserved names: a claim's own columns, a member's accumulators, and the words of cells.

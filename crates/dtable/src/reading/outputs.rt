@@ -7,19 +7,17 @@ ghost use Rattle.dtable.specs.PlanFile.{IsLiteral, IsPriority, ArePriorityEntrie
 ghost use Rattle.dtable.specs.Reading.{Reads};
 ghost use Rattle.dtable.specs.Scope.{seen_of, taken_names, output_names};
 
+use super::constraints::is_listed;
 use super::document::{check_count, required_array};
 use super::limits::{OUTPUTS_LIMIT, PRIORITY_LIMIT};
 use super::literals::read_literal_entry;
 use super::names::{read_kind, read_name};
 use super::place::FaultLocation;
 use super::scope::is_taken_output;
-use crate::hit::Hit;
-use crate::hit_constraints::is_listed;
-use crate::name::Name;
-use crate::table::{Input, InputData, Output, Table};
 use faults::{Ordinal, PlanCause, PlanFault};
 use feel_tests::{Kind, Sequence, Value as Literal, text_spells_at_most_one_value};
 use std::alloc::Global;
+use tables::{Hit, Input, InputData, Name, Output, Table};
 use toml::Value;
 
 /// Reads the outputs of a table. Their column numbers follow those of the inputs.

@@ -9,20 +9,18 @@ ghost use Rattle.faults.specs.declared.role_key.RoleKey.TheVariants as role_keys
 ghost use Rattle.faults.specs.RoleKeys.{key_of};
 ghost use Rattle.feel_tests.specs.declared.kind.Kind.TheVariants as kinds;
 ghost use Rattle.dtable.specs.Document.{string_at, Optionally};
-ghost use Rattle.dtable.specs.Limits.{name_limit_bytes};
-ghost use Rattle.dtable.specs.Plan.{same_kind};
+ghost use Rattle.tables.specs.Limits.{name_limit_bytes};
+ghost use Rattle.tables.specs.Plan.{same_kind};
 ghost use Rattle.dtable.specs.Reading.{Reads};
 ghost use Rattle.dtable.specs.RoleFile.{AreBenefits, AreFamilyRoles, AreLimits, AreRoles, AreRemarks, AreShares, IsRole, IsSource, IsNamedSource, IsLiteralSource, Meets, asked_by, asked_kind, lists_texts};
 ghost use Rattle.dtable.specs.Scope.{seen_of};
 
 use super::place::FaultLocation;
 use super::scope::{kind_at, origin_of};
-use crate::name::Name;
-use crate::roles::{FamilyRoles, Roles, Source};
-use crate::table::{InputData, Origin, Output, Table};
 use faults::{PlanCause, PlanFault, RoleKey};
 use feel_tests::{CellCause, Kind, Value as Literal, read_value, text_spells_at_most_one_value};
 use std::alloc::{AllocError, Global};
+use tables::{FamilyRoles, InputData, Name, Origin, Output, Roles, Source, Table};
 use toml::Value;
 
 /// The requirement on a role's value.

@@ -7,16 +7,16 @@ ghost use Rattle.dtable.specs.PlanFile.{IsCellUnder, IsEntry, IsRow, IsRule, Are
 ghost use Rattle.dtable.specs.Reading.{Reads};
 ghost use Rattle.dtable.specs.Scope.{seen_of};
 
+use super::constraints::is_ranked;
 use super::document::{check_count, required_array};
 use super::inputs::read_input_cell;
 use super::limits::RULES_LIMIT;
 use super::literals::read_literal_entry;
 use super::place::FaultLocation;
-use crate::hit_constraints::is_ranked;
-use crate::table::{Input, InputData, Output, Rule, Table};
 use faults::{Ordinal, PlanCause, PlanFault};
 use feel_tests::{Cell, Sequence, Value as Literal, text_spells_at_most_one_value};
 use std::alloc::Global;
+use tables::{Input, InputData, Output, Rule, Table};
 use toml::Value;
 
 /// Reads the rules of a table.

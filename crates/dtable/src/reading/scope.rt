@@ -5,8 +5,8 @@ ghost use Rattle.dtable.specs.NameForm.{is_among, names_taken};
 ghost use Rattle.dtable.specs.Scope.{data_names, output_names, seen_names, taken_names, seen_of, is_single_of, origin_of, earlier_origin, kind_at};
 
 use super::names::{is_reserved, is_taken_from_start};
-use crate::table::{InputData, Origin, Output, Table};
 use feel_tests::Kind;
+use tables::{InputData, Origin, Output, Table};
 
 /// Returns where the value of a name comes from: from the input data, or otherwise from an output
 /// of an earlier table that has a single value.

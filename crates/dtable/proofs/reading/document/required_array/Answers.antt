@@ -10,3 +10,9 @@ returns-in-None-clause-refused c = ap (option_and_then as_array) c.in_ok-value.e
 pub returns-in-Some-clause-ok : goal.returns-in-Some-clause-ok
 returns-in-Some-clause-ok c =
     ap (option_and_then as_array) c.in_ok-value.ensures.ok ∙ (sym c.as_array.ensures ∙ ap (option_map (λ array. array_view array.now)) c.in-Some.is) ∙ ap (λ items. Some (items_view items)) (sym c.as_slice.ensures.value)
+
+pub returns-in-Some-clause-refused : goal.returns-in-Some-clause-refused
+returns-in-Some-clause-refused c = tt
+
+pub returns-in-None-clause-ok : goal.returns-in-None-clause-ok
+returns-in-None-clause-ok c = tt

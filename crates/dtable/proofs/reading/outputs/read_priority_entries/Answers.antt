@@ -1,7 +1,10 @@
-use Rattle.std.proofs.Common.{arith}
-use Rattle.std.proofs.lemmas.Grind.{common_steps}
-use Rattle.std.proofs.lemmas.Result.{err_from_is_err_and}
+use Rattle.std.proofs.Common.{[], refl, subst}
 use Rattle.dtable.proofs.ReadTables.{ArePriorities-more, ArePriorities-none}
+use Rattle.std.proofs.lemmas.List.{take_all}
+use Rattle.toml.specs.View.{items_view}
+use Rattle.dtable.specs.Document.{EachAfter}
+use Rattle.dtable.specs.PlanFile.{IsPriority, ArePriorityEntries}
+use Rattle.dtable.proofs.Exits.{passed_on}
 use Rattle.dtable.proofs.reading.outputs.read_priority_entries.Goals as goal
 
 pub loop-entry-preserved : goal.loop-entry-preserved
@@ -11,9 +14,21 @@ loop-entry-preserved c =
 
 pub returns-in_err-value : goal.returns-in_err-value
 returns-in_err-value c =
-    let p = err_from_is_err_and c.from_residual-in_err-value.result c.from_residual-in_err-value.ensures.1 in
     let none = rw c.as_slice.ensures at c.in_err-value.ensures in
-    rw (p.1, p.2) (λ memory more h. ArePriorities-none c.text_spells_at_most_one_value.ensures c.args.kind c.args.entries.now c.loop-entry.entry-index c.entry-item.result c.loop-entry.list more c.loop-entry-test.true c.entry-item.is c.loop-entry.invariant (none memory) h)
+    passed_on (ArePriorityEntries c.args.kind (items_view c.args.entries.now)) c.from_residual-in_err-value.result _ c.from_residual-in_err-value.ensures.1
+    (λ memory more h. ArePriorities-none c.text_spells_at_most_one_value.ensures c.args.kind c.args.entries.now c.loop-entry.entry-index c.entry-item.result c.loop-entry.list more c.loop-entry-test.true c.entry-item.is c.loop-entry.invariant (none memory) h)
 
 pub returns : goal.returns
-returns c = grind (arith, common_steps)
+returns c = record {
+  within = c.in_ok-check_count.ensures.ok;
+  each = subst (λ read. EachAfter (λ x. x) (IsPriority c.args.kind) [] (items_view read) c.loop-entry.list) (take_all c.loop-entry.entry-index c.args.entries.now c.loop-entry-test.false) c.loop-entry.invariant;
+}
+
+pub loop-entry-init : goal.loop-entry-init
+loop-entry-init c = rw c.new-list.ensures tt
+
+pub returns-in_err-push : goal.returns-in_err-push
+returns-in_err-push c = passed_on (ArePriorityEntries c.args.kind (items_view c.args.entries.now)) c.from_residual-in_err-push.result _ c.from_residual-in_err-push.ensures.1 (λ memory list h. memory refl)
+
+pub returns-in_err-check_count : goal.returns-in_err-check_count
+returns-in_err-check_count c = passed_on (ArePriorityEntries c.args.kind (items_view c.args.entries.now)) c.from_residual.result _ c.from_residual.ensures.1 (λ memory list h. c.in_err-check_count.ensures.refused h.within)

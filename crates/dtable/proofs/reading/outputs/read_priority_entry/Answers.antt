@@ -1,13 +1,14 @@
 use Rattle.std.proofs.Common.{sym, ◌∙◌}
-use Rattle.std.proofs.lemmas.Result.{err_from_is_err_and}
 use Rattle.toml.specs.View.{view}
 use Rattle.dtable.proofs.ReadParts.{IsPriority-listed}
+use Rattle.dtable.proofs.Exits.{passed_on}
+use Rattle.dtable.specs.PlanFile.{IsPriority}
 use Rattle.dtable.proofs.reading.outputs.read_priority_entry.Goals as goal
 
 pub returns-in_err-value : goal.returns-in_err-value
 returns-in_err-value c =
-    let p = err_from_is_err_and c.from_residual.result c.from_residual.ensures.1 in
-    rw (p.1, p.2) (λ memory v h. c.in_err-value.ensures memory v h.literal)
+    passed_on (IsPriority c.args.kind c.args.front.now (view c.args.entry.now)) c.from_residual.result _ c.from_residual.ensures.1
+    (λ memory v h. c.in_err-value.ensures memory v h.literal)
 
 pub returns-then-is_listed : goal.returns-then-is_listed
 returns-then-is_listed c _ =

@@ -2,7 +2,7 @@ use Rattle.std.proofs.Common.{◌∙◌, List, [], ◌∷◌, ◌||◌, ◌≡�
 use Rattle.std.specs.List.{list_any}
 use Rattle.std.proofs.lemmas.Iterator.{YieldsList-from_slice}
 use Rattle.std.proofs.lemmas.Iterator.Search.{any_from_yields_List}
-use Rattle.dtable.specs.declared.table.Table.{Table}
+use Rattle.tables.specs.declared.table.Table.{Table}
 use Rattle.dtable.specs.RoleFile.{lists_texts}
 use Rattle.dtable.specs.Scope.{seen_of}
 use Rattle.dtable.proofs.ReadNames.{lists_text_as}
@@ -14,5 +14,5 @@ over_tables name (t ∷ ts) = ap (λ b. list_any (lists_text_as name) (seen_of t
 
 pub returns-clause-listed : goal.returns-clause-listed
 returns-clause-listed c =
-    any_from_yields_List (λ t. list_any (lists_text_as c.args.name.now) (seen_of t)) _ _ _ c.any.ensures.ran (YieldsList-from_slice c.args.tables.now cc) (λ x b q k. search (rules, tests))
+    any_from_yields_List (λ t. list_any (lists_text_as c.args.name.now) (seen_of t)) _ _ _ c.any.ensures.ran (YieldsList-from_slice _ c.iter.ensures.rest) (λ x b q k. search (rules, tests))
     ∙ over_tables c.args.name.now c.args.tables.now

@@ -1,8 +1,11 @@
 use Rattle.std.proofs.lemmas.Grind.{elements}
-use Rattle.std.proofs.Common.{◌≡◌, map, Some, get_or, subst, sym, ap, ◌∙◌, rules, arith}
-use Rattle.dtable.specs.declared.table.Origin.TheVariants.{Earlier}
+use Rattle.std.proofs.Common.{◌≡◌, map, Some, get_or, subst, sym, ap, ◌∙◌, rules, arith, length, ◌≤◌, refl}
+use Rattle.tables.specs.declared.table.Origin.TheVariants.{Earlier}
 use Rattle.dtable.specs.Scope.{seen_of, origin_of, kind_at}
 use Rattle.dtable.proofs.FoundOutput.{is_located_at}
+use Rattle.tables.specs.Limits.{name_limit_bytes}
+use Rattle.dtable.specs.RoleFile.{IsNamedSource}
+use Rattle.dtable.proofs.Exits.{passed_on}
 use Rattle.dtable.proofs.reading.roles.read_named.Goals as goal
 
 pub returns-in_ok-new-in-Earlier : goal.returns-in_ok-new-in-Earlier
@@ -37,3 +40,9 @@ bounds-as_slice-column c = grind (arith, elements)
 
 pub bounds-tables-table : goal.bounds-tables-table
 bounds-tables-table c = grind (arith, elements)
+
+pub new-requires : goal.new-requires
+new-requires c = subst (λ name. length name ≤ name_limit_bytes) (sym c.as_str.ensures.text) c.as_str.ensures.short
+
+pub returns-in_err-new-in-Earlier : goal.returns-in_err-new-in-Earlier
+returns-in_err-new-in-Earlier c = passed_on (IsNamedSource c.args.names.now (map seen_of c.args.tables.now) c.args.kind c.args.text.now) c.from_residual.result _ c.from_residual.ensures.1 (λ memory source h. memory refl)

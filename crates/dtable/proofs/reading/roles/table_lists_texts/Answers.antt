@@ -1,5 +1,5 @@
 use Rattle.std.proofs.Common.{◌≡◌, true, false, ◌∙◌}
-use Rattle.dtable.specs.Plan.{gives_one}
+use Rattle.tables.specs.Plan.{gives_one}
 use Rattle.dtable.proofs.ReadNames.{texts-listed, texts-given}
 use Rattle.dtable.proofs.reading.roles.table_lists_texts.Goals as goal
 

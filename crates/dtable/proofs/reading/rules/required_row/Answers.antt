@@ -11,3 +11,18 @@ returns-then-items-columns-clause-refused c items read same =
     let known = c.in_ok-items.ensures.ok in
     let here = same_Some items (items_view found) (sym read ∙ known) in
     c.if-items-columns.true (sym (item_count-view found) ∙ ap item_count (sym here) ∙ same)
+
+pub returns-clause-ok : goal.returns-clause-ok
+returns-clause-ok c = c.in_ok-items.ensures.ok
+
+pub returns-clause-columns : goal.returns-clause-columns
+returns-clause-columns c = c.if-items-columns.false
+
+pub returns-clause-refused : goal.returns-clause-refused
+returns-clause-refused c = tt
+
+pub returns-then-items-columns-clause-ok : goal.returns-then-items-columns-clause-ok
+returns-then-items-columns-clause-ok c = tt
+
+pub returns-then-items-columns-clause-columns : goal.returns-then-items-columns-clause-columns
+returns-then-items-columns-clause-columns c = tt

@@ -7,5 +7,5 @@ use Rattle.dtable.proofs.reading.scope.is_output.Goals as goal
 
 pub returns : goal.returns
 returns c =
-    any_from_yields_List (λ d. bytes_eq d.name c.args.name.now) _ _ _ c.any.ensures.ran (YieldsList-from_slice c.args.outputs.now cc) (λ x b q k. search (rules, tests))
+    any_from_yields_List (λ d. bytes_eq d.name c.args.name.now) _ _ _ c.any.ensures.ran (YieldsList-from_slice _ c.iter.ensures.rest) (λ x b q k. search (rules, tests))
     ∙ is_among-map (λ d. d.name) c.args.name.now c.args.outputs.now

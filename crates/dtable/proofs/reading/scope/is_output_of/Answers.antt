@@ -8,5 +8,5 @@ use Rattle.dtable.proofs.reading.scope.is_output_of.Goals as goal
 
 pub returns : goal.returns
 returns c =
-    any_from_yields_List (λ t. is_among c.args.name.now (output_names t.outputs)) _ _ _ c.any.ensures.ran (YieldsList-from_slice c.args.tables.now cc) (λ x b q k. search (rules, tests))
+    any_from_yields_List (λ t. is_among c.args.name.now (output_names t.outputs)) _ _ _ c.any.ensures.ran (YieldsList-from_slice _ c.iter.ensures.rest) (λ x b q k. search (rules, tests))
     ∙ is_among-tables c.args.name.now c.args.tables.now

@@ -1,6 +1,0 @@
-use Rattle.std.proofs.Common.{◌≡◌, [], drop}
-use Rattle.dtable.specs.Environment.{answers_of}
-use Rattle.dtable.proofs.evaluation.answers_of.Given as goal
-
-abbrev pub invariant-loop-table : goal.invariant-loop-table
-invariant-loop-table l = answers_of l.given l.answers (drop l.table-index l.tables) ≡ answers_of l.given [] l.tables

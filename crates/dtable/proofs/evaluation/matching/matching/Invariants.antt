@@ -1,7 +1,0 @@
-use Rattle.std.proofs.Common.{◌≡◌, filter}
-use Rattle.std.specs.List.{range_with_len}
-use Rattle.dtable.specs.Matching.{rule_matches}
-use Rattle.dtable.proofs.evaluation.matching.matching.Given as goal
-
-abbrev pub invariant-loop-place : goal.invariant-loop-place
-invariant-loop-place l = l.found ≡ filter (rule_matches l.given l.earlier l.table) (range_with_len 0 l.place)

@@ -1,7 +1,0 @@
-use Rattle.std.proofs.Common.{◌≡◌, take}
-use Rattle.std.specs.List.{filter_map}
-use Rattle.dtable.specs.HitPolicy.{ones}
-use Rattle.dtable.proofs.evaluation.single.no_match_value.Given as goal
-
-abbrev pub invariant-loop-output : goal.invariant-loop-output
-invariant-loop-output l = l.answers ≡ ones (filter_map (λ o. o.fallback) (take l.output-index l.outputs))

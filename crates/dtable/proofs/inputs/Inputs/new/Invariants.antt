@@ -1,6 +1,0 @@
-use Rattle.std.proofs.Common.{◌≡◌, take}
-use Rattle.dtable.specs.Inputs.{empty_slots}
-use Rattle.dtable.proofs.inputs.Inputs.new.Given as goal
-
-abbrev pub invariant-loop-data : goal.invariant-loop-data
-invariant-loop-data l = l.slots.items ≡ empty_slots (take l.data-index l.names)

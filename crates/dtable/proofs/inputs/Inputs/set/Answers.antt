@@ -1,6 +1,0 @@
-use Rattle.std.proofs.Common.{arith}
-use Rattle.std.proofs.lemmas.Grind.{elements}
-use Rattle.dtable.proofs.inputs.Inputs.set.Goals as goal
-
-pub index_mut-requires : goal.index_mut-requires
-index_mut-requires c = grind (arith, elements)

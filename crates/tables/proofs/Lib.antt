@@ -1,0 +1,11 @@
+pub mod Chain
+pub mod Matches
+pub mod Named
+pub mod NeededNames
+pub mod OnlyOrder
+pub mod OutputPlaces
+pub mod PriorityOrder
+pub mod RankedOnce
+pub mod Ready
+pub mod SlotKinds
+pub mod Steps

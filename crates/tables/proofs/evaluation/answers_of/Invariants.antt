@@ -1,0 +1,6 @@
+use Rattle.std.proofs.Common.{◌≡◌, [], drop}
+use Rattle.tables.specs.Environment.{answers_of}
+use Rattle.tables.proofs.evaluation.answers_of.Given as goal
+
+abbrev pub invariant-loop-table : goal.invariant-loop-table
+invariant-loop-table l = answers_of l.given l.answers (drop l.table-index l.tables) ≡ answers_of l.given [] l.tables

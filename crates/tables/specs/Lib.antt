@@ -1,0 +1,9 @@
+pub mod Limits
+pub mod Inputs
+pub mod Names
+pub mod Plan
+pub mod Matching
+pub mod Priority
+pub mod HitPolicy
+pub mod Environment
+pub mod OwnedAnswers
