@@ -1,5 +1,5 @@
 -- Between two adjacent literals of its own, a cell holds for all values or for none.
-use Rattle.std.proofs.Common.{◌≡◌, ℕ, zero, suc, ◌-◌, ◌≤◌, ◌<◌, ◌&&◌, ◌||◌, ◌==◌, ℤ, inl, inr, Bool, true, false, List, [], ◌∷◌, length, filter, Option, Some, None, refl, ap, sym, ◌∙◌, subst, arith}
+use Rattle.std.proofs.Common.{◌≡◌, ℕ, zero, suc, ◌-◌, ◌≤◌, ◌<◌, ◌&&◌, ◌||◌, ◌==◌, inl, inr, Bool, true, false, List, [], ◌∷◌, length, filter, Option, Some, None, refl, ap, sym, ◌∙◌, subst, arith}
 use Rattle.std.specs.Prelude.{nat_le}
 use Rattle.std.specs.List.{slice_get}
 use Rattle.std.specs.Option.{option_map_or}
@@ -10,108 +10,51 @@ use Rattle.feel_tests.specs.declared.kind.Kind.{Kind}
 use Rattle.feel_tests.specs.declared.kind.Kind.TheVariants as kinds
 use Rattle.feel_tests.specs.declared.value.Value.{Value}
 use Rattle.feel_tests.specs.declared.value.Value.TheVariants.{Number, Text, Flag, Day}
-use Rattle.dtable.specs.declared.table.Rule.{Rule}
-use Rattle.dtable.specs.Plan.{has_kind}
+use Rattle.tables.specs.declared.table.Rule.{Rule}
+use Rattle.tables.specs.Plan.{has_kind}
 use Rattle.cutplan.specs.Values.{is_before, sort_values}
 use Rattle.cutplan.specs.Regions.{literals}
-use Rattle.cutplan.specs.CheckSteps.{can_be_sorted, fits_at, is_located_at, own_cuts, cell_holds, IsAsked}
-use Rattle.cutplan.proofs.Integers.{beside_above, beside_below, lt_from}
-use Rattle.cutplan.proofs.Alike.{Among, Apart, Alike, each_from, alike_apart, alike_number, alike_day, holds_alike}
+use Rattle.cutplan.specs.CheckSteps.{fits_at, is_located_at, own_cuts, cell_holds, IsAsked}
+use Rattle.cutplan.proofs.Alike.{Among, Apart, Alike, each_from, alike_apart, holds_alike}
 use Rattle.cutplan.proofs.CutLists.{rising_only}
-use Rattle.cutplan.proofs.CutOrder.{Lined, Of, Rises, number_lined, day_lined, text_lined, chain_of, cuts_of_kind, rises_at}
-use Rattle.cutplan.proofs.Regionwise.{number_is, day_is, text_is, cut_of, number_text, number_flag, number_day, day_text, day_flag, day_number, text_number, text_flag, text_day, text_text}
+use Rattle.cutplan.proofs.CutOrder.{Lined, Of, OfKind, Rises, asked_of, by_kind, chain_of, cuts_of_kind, rises_at}
+use Rattle.cutplan.proofs.Regionwise.{number_is, day_is, flag_is, text_is, cut_of, number_text, number_flag, number_day, day_text, day_flag, day_number, flag_number, flag_text, flag_day, text_number, text_flag, text_day}
 use Rattle.cutplan.proofs.Holding.{among_passes}
-use Rattle.cutplan.proofs.CutSearch.{OfKind, front_apart, after_apart, item_at}
+use Rattle.cutplan.proofs.CutSearch.{item_at}
 
--- two values above a literal
-after_number : (a c : ℤ) → is_before (Number c) (Number a) ≡ true → (w : Value) → is_before (Number c) w ≡ true → Alike (Number a) w (Number c)
-after_number a c h (Number b) k = alike_number a b c (beside_above a b c (lt_from c a h) (lt_from c b k))
-after_number a c h (Text t) k = absurd (both_ways false refl k)
-after_number a c h (Flag f) k = absurd (both_ways false refl k)
-after_number a c h (Day d) k = absurd (both_ways false refl k)
+-- values of a kind on one side of a literal of the kind
+after_alike : {K : Type 0} {mk : K → Value} → Lined mk → (l v w : Value) → Of mk l → Of mk v → Of mk w → is_before l v ≡ true → is_before l w ≡ true → Alike v w l
+after_alike {K} {mk} line l v w l_is v_is w_is h k =
+    subst (λ x. Alike x w l) (sym v_is.1)
+    (subst (λ y. Alike (mk v_is.0) y l) (sym w_is.1)
+    (subst (λ z. Alike (mk v_is.0) (mk w_is.0) z) (sym l_is.1)
+    (line.above v_is.0 w_is.0 l_is.0 (sym (asked_of mk is_before l v l_is v_is) ∙ h) (sym (asked_of mk is_before l w l_is w_is) ∙ k))))
 
-after_day : (a c : ℤ) → is_before (Day c) (Day a) ≡ true → (w : Value) → is_before (Day c) w ≡ true → Alike (Day a) w (Day c)
-after_day a c h (Number b) k = absurd (both_ways false refl k)
-after_day a c h (Text t) k = absurd (both_ways false refl k)
-after_day a c h (Flag f) k = absurd (both_ways false refl k)
-after_day a c h (Day b) k = alike_day a b c (beside_above a b c (lt_from c a h) (lt_from c b k))
-
-after_text : (a c : List ℕ) → is_before (Text c) (Text a) ≡ true → (w : Value) → is_before (Text c) w ≡ true → Alike (Text a) w (Text c)
-after_text a c h (Number b) k = absurd (both_ways false refl k)
-after_text a c h (Text b) k = alike_apart (text_text a c (after_apart (Text a) (Text c) h)) (text_text b c (after_apart (Text b) (Text c) k))
-after_text a c h (Flag f) k = absurd (both_ways false refl k)
-after_text a c h (Day d) k = absurd (both_ways false refl k)
-
-after_alike : (l v w : Value) → is_before l v ≡ true → is_before l w ≡ true → Alike v w l
-after_alike (Number c) (Number a) w h k = after_number a c h w k
-after_alike (Number c) (Text t) w h k = absurd (both_ways false refl h)
-after_alike (Number c) (Flag f) w h k = absurd (both_ways false refl h)
-after_alike (Number c) (Day d) w h k = absurd (both_ways false refl h)
-after_alike (Text c) (Number a) w h k = absurd (both_ways false refl h)
-after_alike (Text c) (Text a) w h k = after_text a c h w k
-after_alike (Text c) (Flag f) w h k = absurd (both_ways false refl h)
-after_alike (Text c) (Day d) w h k = absurd (both_ways false refl h)
-after_alike (Flag c) (Number a) w h k = absurd (both_ways false refl h)
-after_alike (Flag c) (Text t) w h k = absurd (both_ways false refl h)
-after_alike (Flag c) (Flag f) w h k = absurd (both_ways false refl h)
-after_alike (Flag c) (Day d) w h k = absurd (both_ways false refl h)
-after_alike (Day c) (Number a) w h k = absurd (both_ways false refl h)
-after_alike (Day c) (Text t) w h k = absurd (both_ways false refl h)
-after_alike (Day c) (Flag f) w h k = absurd (both_ways false refl h)
-after_alike (Day c) (Day a) w h k = after_day a c h w k
-
--- two values below a literal
-front_number : (a c : ℤ) → is_before (Number a) (Number c) ≡ true → (w : Value) → is_before w (Number c) ≡ true → Alike (Number a) w (Number c)
-front_number a c h (Number b) k = alike_number a b c (beside_below a b c (lt_from a c h) (lt_from b c k))
-front_number a c h (Text t) k = absurd (both_ways false refl k)
-front_number a c h (Flag f) k = absurd (both_ways false refl k)
-front_number a c h (Day d) k = absurd (both_ways false refl k)
-
-front_day : (a c : ℤ) → is_before (Day a) (Day c) ≡ true → (w : Value) → is_before w (Day c) ≡ true → Alike (Day a) w (Day c)
-front_day a c h (Number b) k = absurd (both_ways false refl k)
-front_day a c h (Text t) k = absurd (both_ways false refl k)
-front_day a c h (Flag f) k = absurd (both_ways false refl k)
-front_day a c h (Day b) k = alike_day a b c (beside_below a b c (lt_from a c h) (lt_from b c k))
-
-front_text : (a c : List ℕ) → is_before (Text a) (Text c) ≡ true → (w : Value) → is_before w (Text c) ≡ true → Alike (Text a) w (Text c)
-front_text a c h (Number b) k = absurd (both_ways false refl k)
-front_text a c h (Text b) k = alike_apart (text_text a c (front_apart (Text a) (Text c) h)) (text_text b c (front_apart (Text b) (Text c) k))
-front_text a c h (Flag f) k = absurd (both_ways false refl k)
-front_text a c h (Day d) k = absurd (both_ways false refl k)
-
-front_alike : (l v w : Value) → is_before v l ≡ true → is_before w l ≡ true → Alike v w l
-front_alike (Number c) (Number a) w h k = front_number a c h w k
-front_alike (Text c) (Number a) w h k = absurd (both_ways false refl h)
-front_alike (Flag c) (Number a) w h k = absurd (both_ways false refl h)
-front_alike (Day c) (Number a) w h k = absurd (both_ways false refl h)
-front_alike (Number c) (Text a) w h k = absurd (both_ways false refl h)
-front_alike (Text c) (Text a) w h k = front_text a c h w k
-front_alike (Flag c) (Text a) w h k = absurd (both_ways false refl h)
-front_alike (Day c) (Text a) w h k = absurd (both_ways false refl h)
-front_alike (Number c) (Flag a) w h k = absurd (both_ways false refl h)
-front_alike (Text c) (Flag a) w h k = absurd (both_ways false refl h)
-front_alike (Flag c) (Flag a) w h k = absurd (both_ways false refl h)
-front_alike (Day c) (Flag a) w h k = absurd (both_ways false refl h)
-front_alike (Number c) (Day a) w h k = absurd (both_ways false refl h)
-front_alike (Text c) (Day a) w h k = absurd (both_ways false refl h)
-front_alike (Flag c) (Day a) w h k = absurd (both_ways false refl h)
-front_alike (Day c) (Day a) w h k = front_day a c h w k
+front_alike : {K : Type 0} {mk : K → Value} → Lined mk → (l v w : Value) → Of mk l → Of mk v → Of mk w → is_before v l ≡ true → is_before w l ≡ true → Alike v w l
+front_alike {K} {mk} line l v w l_is v_is w_is h k =
+    subst (λ x. Alike x w l) (sym v_is.1)
+    (subst (λ y. Alike (mk v_is.0) y l) (sym w_is.1)
+    (subst (λ z. Alike (mk v_is.0) (mk w_is.0) z) (sym l_is.1)
+    (line.below v_is.0 w_is.0 l_is.0 (sym (asked_of mk is_before v l v_is l_is) ∙ h) (sym (asked_of mk is_before w l w_is l_is) ∙ k))))
 
 -- no test of a literal of another kind holds for the value
-kinds_apart : (kind : Kind) (v l : Value) → can_be_sorted kind ≡ true → has_kind kind v ≡ true → has_kind kind l ≡ false → Apart v l
-kinds_apart kinds.Number v (Number c) ordered is other = absurd (both_ways true other refl)
-kinds_apart kinds.Number v (Text t) ordered is other = let of = number_is v is in subst (λ x. Apart x (Text t)) (sym of.1) (number_text of.0 t)
-kinds_apart kinds.Number v (Flag f) ordered is other = let of = number_is v is in subst (λ x. Apart x (Flag f)) (sym of.1) (number_flag of.0 f)
-kinds_apart kinds.Number v (Day d) ordered is other = let of = number_is v is in subst (λ x. Apart x (Day d)) (sym of.1) (number_day of.0 d)
-kinds_apart kinds.Text v (Number c) ordered is other = let of = text_is v is in subst (λ x. Apart x (Number c)) (sym of.1) (text_number of.0 c)
-kinds_apart kinds.Text v (Text t) ordered is other = absurd (both_ways true other refl)
-kinds_apart kinds.Text v (Flag f) ordered is other = let of = text_is v is in subst (λ x. Apart x (Flag f)) (sym of.1) (text_flag of.0 f)
-kinds_apart kinds.Text v (Day d) ordered is other = let of = text_is v is in subst (λ x. Apart x (Day d)) (sym of.1) (text_day of.0 d)
-kinds_apart kinds.Flag v l ordered is other = absurd (both_ways false refl ordered)
-kinds_apart kinds.Day v (Number c) ordered is other = let of = day_is v is in subst (λ x. Apart x (Number c)) (sym of.1) (day_number of.0 c)
-kinds_apart kinds.Day v (Text t) ordered is other = let of = day_is v is in subst (λ x. Apart x (Text t)) (sym of.1) (day_text of.0 t)
-kinds_apart kinds.Day v (Flag f) ordered is other = let of = day_is v is in subst (λ x. Apart x (Flag f)) (sym of.1) (day_flag of.0 f)
-kinds_apart kinds.Day v (Day d) ordered is other = absurd (both_ways true other refl)
+kinds_apart : (kind : Kind) (v l : Value) → has_kind kind v ≡ true → has_kind kind l ≡ false → Apart v l
+kinds_apart kinds.Number v (Number c) is other = absurd (both_ways true other refl)
+kinds_apart kinds.Number v (Text t) is other = let of = number_is v is in subst (λ x. Apart x (Text t)) (sym of.1) (number_text of.0 t)
+kinds_apart kinds.Number v (Flag f) is other = let of = number_is v is in subst (λ x. Apart x (Flag f)) (sym of.1) (number_flag of.0 f)
+kinds_apart kinds.Number v (Day d) is other = let of = number_is v is in subst (λ x. Apart x (Day d)) (sym of.1) (number_day of.0 d)
+kinds_apart kinds.Text v (Number c) is other = let of = text_is v is in subst (λ x. Apart x (Number c)) (sym of.1) (text_number of.0 c)
+kinds_apart kinds.Text v (Text t) is other = absurd (both_ways true other refl)
+kinds_apart kinds.Text v (Flag f) is other = let of = text_is v is in subst (λ x. Apart x (Flag f)) (sym of.1) (text_flag of.0 f)
+kinds_apart kinds.Text v (Day d) is other = let of = text_is v is in subst (λ x. Apart x (Day d)) (sym of.1) (text_day of.0 d)
+kinds_apart kinds.Flag v (Number c) is other = let of = flag_is v is in subst (λ x. Apart x (Number c)) (sym of.1) (flag_number of.0 c)
+kinds_apart kinds.Flag v (Text t) is other = let of = flag_is v is in subst (λ x. Apart x (Text t)) (sym of.1) (flag_text of.0 t)
+kinds_apart kinds.Flag v (Flag f) is other = absurd (both_ways true other refl)
+kinds_apart kinds.Flag v (Day d) is other = let of = flag_is v is in subst (λ x. Apart x (Day d)) (sym of.1) (flag_day of.0 d)
+kinds_apart kinds.Day v (Number c) is other = let of = day_is v is in subst (λ x. Apart x (Number c)) (sym of.1) (day_number of.0 c)
+kinds_apart kinds.Day v (Text t) is other = let of = day_is v is in subst (λ x. Apart x (Text t)) (sym of.1) (day_text of.0 t)
+kinds_apart kinds.Day v (Flag f) is other = let of = day_is v is in subst (λ x. Apart x (Flag f)) (sym of.1) (day_flag of.0 f)
+kinds_apart kinds.Day v (Day d) is other = absurd (both_ways true other refl)
 
 among_index : {X : Type 0} (xs : List X) (x : X) → Among x xs → (k : ℕ) × (slice_get xs k ≡ Some x)
 among_index [] x at = absurd at
@@ -130,7 +73,7 @@ cut_in_front cs place j c v e at side =
     ap (λ found. option_map_or (λ x. is_before x v) found true) (sym at) ∙ ap (λ n. option_map_or (λ x. is_before x v) (slice_get cs n) true) (sym there)
     ∙ sym (ap (λ b. b || option_map_or (λ x. is_before x v) (slice_get cs (place - 1)) true) (ne_eqb place 0 (λ none. omega (arith, e, none)))) ∙ side
 
--- the cuts are of one kind that has an order, and they are increasing
+-- the cuts are of one kind, and they are increasing
 record Ordered {K : Type 0} (mk : K → Value) (cs : List Value) : Type 0 where
   line : Lined mk
   made : (c : Value) → Among c cs → Of mk c
@@ -172,8 +115,8 @@ cut_alike : {K : Type 0} {mk : K → Value} (cs : List Value) (place : ℕ) (v w
 cut_alike cs place v w o v_is w_is within fit_v fit_w l at =
     let index = among_index cs l at in
     elim (cases_lt index.0 place) [
-      | inl less ↦ after_alike l v w (earlier_cut cs place index.0 l v o v_is within fit_v index.1 less) (earlier_cut cs place index.0 l w o w_is within fit_w index.1 less)
-      | inr most ↦ front_alike l v w (later_cut cs place index.0 l v o v_is fit_v index.1 most) (later_cut cs place index.0 l w o w_is fit_w index.1 most)
+      | inl less ↦ after_alike o.line l v w (o.made l at) v_is w_is (earlier_cut cs place index.0 l v o v_is within fit_v index.1 less) (earlier_cut cs place index.0 l w o w_is within fit_w index.1 less)
+      | inr most ↦ front_alike o.line l v w (o.made l at) v_is w_is (later_cut cs place index.0 l v o v_is fit_v index.1 most) (later_cut cs place index.0 l w o w_is fit_w index.1 most)
     ]
 
 -- the cuts of a kind among literals
@@ -187,29 +130,23 @@ ordered_cuts kind lits line is rise = record {
   rise = rise;
 }
 
-kind_cuts_alike : (kind : Kind) (lits : List Value) (place : ℕ) (v w : Value) → can_be_sorted kind ≡ true → has_kind kind v ≡ true → has_kind kind w ≡ true → place ≤ length (cuts_in kind lits)
+kind_cuts_alike : (kind : Kind) (lits : List Value) (place : ℕ) (v w : Value) → has_kind kind v ≡ true → has_kind kind w ≡ true → place ≤ length (cuts_in kind lits)
     → fits_at (cuts_in kind lits) place v ≡ true → fits_at (cuts_in kind lits) place w ≡ true → (l : Value) → Among l (cuts_in kind lits) → Alike v w l
-kind_cuts_alike kinds.Number lits place v w ordered v_is w_is within fit_v fit_w l at =
-    cut_alike (cuts_in kinds.Number lits) place v w (ordered_cuts kinds.Number lits number_lined number_is (cuts_of_kind kinds.Number lits (λ e. both_ways (can_be_sorted kinds.Number) (ap can_be_sorted e) refl))) (number_is v v_is) (number_is w w_is) within fit_v fit_w l at
-kind_cuts_alike kinds.Text lits place v w ordered v_is w_is within fit_v fit_w l at =
-    cut_alike (cuts_in kinds.Text lits) place v w (ordered_cuts kinds.Text lits text_lined text_is (cuts_of_kind kinds.Text lits (λ e. both_ways (can_be_sorted kinds.Text) (ap can_be_sorted e) refl))) (text_is v v_is) (text_is w w_is) within fit_v fit_w l at
-kind_cuts_alike kinds.Flag lits place v w ordered v_is w_is within fit_v fit_w l at = absurd (both_ways false refl ordered)
-kind_cuts_alike kinds.Day lits place v w ordered v_is w_is within fit_v fit_w l at =
-    cut_alike (cuts_in kinds.Day lits) place v w (ordered_cuts kinds.Day lits day_lined day_is (cuts_of_kind kinds.Day lits (λ e. both_ways (can_be_sorted kinds.Day) (ap can_be_sorted e) refl))) (day_is v v_is) (day_is w w_is) within fit_v fit_w l at
+kind_cuts_alike kind lits place v w =
+    by_kind (λ k. has_kind k v ≡ true → has_kind k w ≡ true → place ≤ length (cuts_in k lits) → fits_at (cuts_in k lits) place v ≡ true → fits_at (cuts_in k lits) place w ≡ true → (l : Value) → Among l (cuts_in k lits) → Alike v w l)
+    (λ K mk line k is v_is w_is. cut_alike (cuts_in k lits) place v w (ordered_cuts k lits line is (cuts_of_kind k lits)) (is v v_is) (is w w_is)) kind
 
--- the four conditions for a value to be at an index
+-- the three conditions for a value to be at an index
 record AtPlace (kind : Kind) (cs : List Value) (place : ℕ) (v : Value) : Type 0 where
-  ordered : can_be_sorted kind ≡ true
   is : has_kind kind v ≡ true
   within : place ≤ length cs
   fit : fits_at cs place v ≡ true
 
 at_place : (kind : Kind) (cs : List Value) (place : ℕ) (v : Value) → is_located_at kind cs place v ≡ true → AtPlace kind cs place v
 at_place kind cs place v e =
-    let all = and_parts ((can_be_sorted kind && has_kind kind v) && nat_le place (length cs)) (fits_at cs place v) e in
-    let front = and_parts (can_be_sorted kind && has_kind kind v) (nat_le place (length cs)) all.0 in
-    let first = and_parts (can_be_sorted kind) (has_kind kind v) front.0 in
-    record { ordered = first.0; is = first.1; within = leb-true place (length cs) front.1; fit = all.1 }
+    let all = and_parts (has_kind kind v && nat_le place (length cs)) (fits_at cs place v) e in
+    let front = and_parts (has_kind kind v) (nat_le place (length cs)) all.0 in
+    record { is = front.0; within = leb-true place (length cs) front.1; fit = all.1 }
 
 -- two values at the same index among the literals of a cell compare in the same way with each of
 -- them
@@ -218,8 +155,8 @@ literal_alike kind lits place v w at_v at_w l at =
     let one = at_place kind (cuts_in kind lits) place v at_v in
     let other = at_place kind (cuts_in kind lits) place w at_w in
     elim (has_kind kind l) as (λ b. has_kind kind l ≡ b → Alike v w l) [
-      | true ↦ λ e. kind_cuts_alike kind lits place v w one.ordered one.is other.is one.within one.fit other.fit l (cut_of kind lits l at e)
-      | false ↦ λ e. alike_apart (kinds_apart kind v l one.ordered one.is e) (kinds_apart kind w l one.ordered other.is e)
+      | true ↦ λ e. kind_cuts_alike kind lits place v w one.is other.is one.within one.fit other.fit l (cut_of kind lits l at e)
+      | false ↦ λ e. alike_apart (kinds_apart kind v l one.is e) (kinds_apart kind w l other.is e)
     ] refl
 
 -- so the cell holds for both values or for neither

@@ -8,18 +8,18 @@ use Rattle.std.specs.Int.RustNames.{unsigned_abs}
 use Rattle.std.proofs.lemmas.Bool.{both_ways}
 use Rattle.fixpoint.specs.Number.{greatest_units}
 use Rattle.feel_tests.specs.declared.value.Value.TheVariants.{Number}
-use Rattle.dtable.specs.declared.environment.Answer.{Answer}
-use Rattle.dtable.specs.declared.environment.Answer.TheVariants.{One}
+use Rattle.tables.specs.declared.environment.Answer.{Answer}
+use Rattle.tables.specs.declared.environment.Answer.TheVariants.{One}
 use Rattle.faults.specs.declared.fault.Fault.TheVariants.{NoRule, Clash, Range}
-use Rattle.dtable.specs.declared.hit.Hit.{Hit}
-use Rattle.dtable.specs.declared.hit.Hit.TheVariants as hits
-use Rattle.dtable.specs.declared.inputs.Slot.{Slot}
-use Rattle.dtable.specs.declared.table.Table.{Table}
-use Rattle.dtable.specs.Environment.{inside, number_after}
-use Rattle.dtable.specs.HitPolicy.{aggregate_value, agree, by_hit, count_units, match_count, number_answer, numbers_of, of_rule, ones, no_match_value}
-use Rattle.dtable.specs.Matching.{matching, first_outside, rule_matches}
-use Rattle.dtable.specs.Plan.{PlanParts}
-use Rattle.dtable.specs.Priority.{entries_of, highest_rule}
+use Rattle.tables.specs.declared.hit.Hit.{Hit}
+use Rattle.tables.specs.declared.hit.Hit.TheVariants as hits
+use Rattle.tables.specs.declared.inputs.Slot.{Slot}
+use Rattle.tables.specs.declared.table.Table.{Table}
+use Rattle.tables.specs.Environment.{inside, number_after}
+use Rattle.tables.specs.HitPolicy.{aggregate_value, agree, by_hit, count_units, match_count, number_answer, numbers_of, of_rule, ones, no_match_value}
+use Rattle.tables.specs.Matching.{matching, first_outside, rule_matches}
+use Rattle.tables.specs.Plan.{PlanParts}
+use Rattle.tables.specs.Priority.{entries_of, highest_rule}
 use Rattle.cutplan.proofs.Alike.{Among}
 use Rattle.cutplan.proofs.Overlapping.{contained_among}
 use Rattle.cutplan.specs.Violations.{clash}

@@ -5,11 +5,11 @@ use Rattle.std.specs.Option.{IfSome}
 use Rattle.std.proofs.lemmas.List.{append-nil, get_or_default, length-map, map-append, take_all, take_more}
 use Rattle.std.proofs.lemmas.List.Elements.{filter-append}
 use Rattle.std.proofs.lemmas.Option.{IfSome_then}
-use Rattle.dtable.specs.declared.inputs.Slot.{Slot}
-use Rattle.dtable.specs.Environment.{env}
-use Rattle.dtable.specs.Inputs.{value_at}
-use Rattle.dtable.specs.Plan.{PlanParts, IsPlan}
-use Rattle.dtable.proofs.NeededNames.{within_names}
+use Rattle.tables.specs.declared.inputs.Slot.{Slot}
+use Rattle.tables.specs.Environment.{env}
+use Rattle.tables.specs.Inputs.{value_at}
+use Rattle.tables.specs.Plan.{PlanParts, IsPlan}
+use Rattle.tables.proofs.NeededNames.{within_names}
 use Rattle.cutplan.specs.declared.region.Region.TheVariants.{Other}
 use Rattle.cutplan.specs.declared.input_class.CompiledName.{CompiledName}
 use Rattle.cutplan.specs.Matching.{has_at, OthersRise}

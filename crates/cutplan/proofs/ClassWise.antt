@@ -5,18 +5,18 @@ use Rattle.std.specs.List.{flat_map, list_any, slice_get, range_with_len, enumer
 use Rattle.std.specs.Option.{option_map_or}
 use Rattle.feel_tests.specs.declared.cell.Cell.{Cell}
 use Rattle.feel_tests.specs.declared.value.Value.{Value}
-use Rattle.dtable.specs.declared.environment.Answer.{Answer}
-use Rattle.dtable.specs.declared.inputs.Slot.{Slot}
-use Rattle.dtable.specs.declared.table.Input.{Input}
-use Rattle.dtable.specs.declared.table.Origin.{Origin}
-use Rattle.dtable.specs.declared.table.Origin.TheVariants.{Given, Earlier}
-use Rattle.dtable.specs.declared.table.Rule.{Rule}
-use Rattle.dtable.specs.declared.table.Table.{Table}
-use Rattle.dtable.specs.Environment.{answers_of, table_value, and_then, inside, number_after}
-use Rattle.dtable.specs.HitPolicy.{TableValue, by_hit}
-use Rattle.dtable.specs.Inputs.{needs, reads, value_at}
-use Rattle.dtable.specs.Matching.{value_read, holds_of, cells_hold, matching, rule_matches, is_outside, first_outside}
-use Rattle.dtable.specs.Plan.{PlanParts}
+use Rattle.tables.specs.declared.environment.Answer.{Answer}
+use Rattle.tables.specs.declared.inputs.Slot.{Slot}
+use Rattle.tables.specs.declared.table.Input.{Input}
+use Rattle.tables.specs.declared.table.Origin.{Origin}
+use Rattle.tables.specs.declared.table.Origin.TheVariants.{Given, Earlier}
+use Rattle.tables.specs.declared.table.Rule.{Rule}
+use Rattle.tables.specs.declared.table.Table.{Table}
+use Rattle.tables.specs.Environment.{answers_of, table_value, and_then, inside, number_after}
+use Rattle.tables.specs.HitPolicy.{TableValue, by_hit}
+use Rattle.tables.specs.Inputs.{needs, reads, value_at}
+use Rattle.tables.specs.Matching.{value_read, holds_of, cells_hold, matching, rule_matches, is_outside, first_outside}
+use Rattle.tables.specs.Plan.{PlanParts}
 use Rattle.cutplan.specs.Regions.{column_literals, literals, rule_literals}
 use Rattle.cutplan.specs.InputClasses.{input_literals, name_kind, name_literals, table_literals}
 use Rattle.cutplan.specs.ClassWise.{Covers, LiesInClass, Zone, ClassesAreValued, answers_in, cell_holds_in, cells_hold_in, first_outside_in, is_outside_in, matching_in, regions_by, rule_matches_in, table_value_in}

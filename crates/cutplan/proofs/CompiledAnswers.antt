@@ -7,12 +7,12 @@ use Rattle.std.specs.Int.RustNames.{unsigned_abs}
 use Rattle.std.proofs.lemmas.Bool.{eqb-true}
 use Rattle.std.proofs.lemmas.Option.{none-some, same_Some}
 use Rattle.fixpoint.specs.Number.{greatest_units}
-use Rattle.dtable.specs.declared.environment.Answer.{Answer}
-use Rattle.dtable.specs.declared.hit.Hit.{Hit}
-use Rattle.dtable.specs.declared.hit.Hit.TheVariants as hits
-use Rattle.dtable.specs.declared.table.Table.{Table}
-use Rattle.dtable.specs.HitPolicy.{TableValue, no_match_value, unique, any, agree, of_rule, aggregate_value, number_answer, numbers_of, match_count, count_units, by_hit}
-use Rattle.dtable.specs.Priority.{highest_rule}
+use Rattle.tables.specs.declared.environment.Answer.{Answer}
+use Rattle.tables.specs.declared.hit.Hit.{Hit}
+use Rattle.tables.specs.declared.hit.Hit.TheVariants as hits
+use Rattle.tables.specs.declared.table.Table.{Table}
+use Rattle.tables.specs.HitPolicy.{TableValue, no_match_value, unique, any, agree, of_rule, aggregate_value, number_answer, numbers_of, match_count, count_units, by_hit}
+use Rattle.tables.specs.Priority.{highest_rule}
 use Rattle.cutplan.specs.declared.compiled_answers.CompiledAnswers.{CompiledAnswers}
 use Rattle.cutplan.specs.CompiledAnswers.{answers_in, answers_of_rules, compiled_answers}
 use Rattle.cutplan.proofs.ByMasks.{found_at}

@@ -7,9 +7,9 @@ use Rattle.std.proofs.lemmas.List.{map-append, take_all, take_more}
 use Rattle.std.proofs.lemmas.List.FromFn.{length-enumerate_from, get_or-enumerate_from}
 use Rattle.std.proofs.lemmas.Option.{none-some, same_Some}
 use Rattle.feel_tests.specs.declared.cell.Cell.{Cell}
-use Rattle.dtable.specs.declared.table.Input.{Input}
-use Rattle.dtable.specs.declared.table.Table.{Table}
-use Rattle.dtable.specs.Plan.{PlanParts, IsPlan}
+use Rattle.tables.specs.declared.table.Input.{Input}
+use Rattle.tables.specs.declared.table.Table.{Table}
+use Rattle.tables.specs.Plan.{PlanParts, IsPlan}
 use Rattle.cutplan.specs.declared.compiled_column.CompiledColumn.{CompiledColumn}
 use Rattle.cutplan.specs.declared.region.Region.{Region}
 use Rattle.cutplan.specs.CheckSteps.{holds_among, AreMasksBy}

@@ -1,17 +1,16 @@
 -- The rules that cover a cell, region by region.
-use Rattle.std.proofs.Common.{◌≡◌, ℕ, zero, suc, ◌+◌, ◌<◌, ◌&&◌, ◌||◌, Bool, true, not, cond, eqb, List, [], ◌∷◌, ◌++◌, length, get_or, take, drop, map, filter, refl, ap, sym, ◌∙◌, add-one, arith}
-use Rattle.std.specs.List.{flat_map, list_any, range_with_len, slice_get}
+use Rattle.std.proofs.Common.{◌≡◌, ℕ, zero, suc, ◌+◌, ◌&&◌, ◌||◌, Bool, true, not, eqb, List, [], ◌∷◌, length, drop, refl, ap, sym, ◌∙◌, add-one, arith}
+use Rattle.std.specs.List.{list_any, range_with_len, slice_get}
 use Rattle.std.specs.Option.{option_map_or}
 use Rattle.std.proofs.lemmas.Bool.{ne_eqb}
-use Rattle.std.proofs.lemmas.List.Elements.{filter-append, filter_agree}
 use Rattle.feel_tests.specs.declared.cell.Cell.{Cell}
-use Rattle.dtable.specs.declared.table.Rule.{Rule}
-use Rattle.dtable.specs.declared.table.Table.{Table}
+use Rattle.tables.specs.declared.table.Rule.{Rule}
+use Rattle.tables.specs.declared.table.Table.{Table}
 use Rattle.cutplan.specs.declared.region.Region.{Region}
 use Rattle.cutplan.specs.Regions.{holds_in}
-use Rattle.cutplan.specs.Check.{covers, cells, holds_at, rule_cells}
+use Rattle.cutplan.specs.Check.{covers, holds_at, rule_cells}
 use Rattle.cutplan.specs.CheckSteps.{uncovered, alive_in}
-use Rattle.cutplan.proofs.Steps.{flat_more, filter_map_cons, any_kept, any_agrees, first_of_rest, rest_of_rest}
+use Rattle.cutplan.proofs.Steps.{any_kept, any_agrees, first_of_rest, rest_of_rest}
 
 -- a rule covers a cell from a column on if and only if it holds in the first region and covers the
 -- others from the next column on
@@ -37,19 +36,6 @@ uncovered_step t column rules r cell =
     ap not (any_agrees (λ rule. covers (drop column (rule_cells t rule)) (r ∷ cell)) (λ rule. holds_at t rule column r && covers (drop (column + 1) (rule_cells t rule)) cell) here rules
     ∙ any_kept (λ rule. holds_at t rule column r) (λ rule. covers (drop (column + 1) (rule_cells t rule)) cell) rules)
 
--- the uncovered cells, extended by one region
-pub uncovered_more : (t : Table) (column : ℕ) (rules : List ℕ) (regions : List Region) (more : List (List Region)) (i : ℕ) (r : Region) → i < length regions → r ≡ get_or regions i r
-    → filter (uncovered t column rules) (flat_map (λ x. map (λ cell. x ∷ cell) (cells more)) (take (i + 1) regions))
-    ≡ filter (uncovered t column rules) (flat_map (λ x. map (λ cell. x ∷ cell) (cells more)) (take i regions)) ++ map (λ cell. r ∷ cell) (filter (uncovered t (column + 1) (alive_in t column r rules)) (cells more))
-uncovered_more t column rules regions more i r below present =
-    let put = λ (x : Region). map (λ (cell : List Region). x ∷ cell) (cells more) in
-    let front = flat_map put (take i regions) in
-    let flat = flat_more put regions i r below in
-    let agree = filter_agree (λ cell. uncovered t column rules (r ∷ cell)) (uncovered t (column + 1) (alive_in t column r rules)) (λ cell. uncovered_step t column rules r cell) (cells more) in
-    ap (filter (uncovered t column rules)) (flat ∙ ap (λ x. front ++ put x) (sym present))
-    ∙ filter-append (uncovered t column rules) front (put r)
-    ∙ ap (λ last. filter (uncovered t column rules) front ++ last) (filter_map_cons (uncovered t column rules) r (cells more) ∙ ap (λ kept. map (λ cell. r ∷ cell) kept) agree)
-
 -- the cell without regions is uncovered if and only if there is no rule
 pub uncovered_end : (t : Table) (column : ℕ) (rules : List ℕ) → uncovered t column rules [] ≡ eqb (length rules) 0
 uncovered_end t column [] = refl
@@ -63,17 +49,6 @@ any_by_place f t k (r ∷ rules) e =
     let rest = any_by_place f t (k + 1) rules (ap (λ n. drop n t.rules) (add-one k) ∙ rest_of_rest t.rules k r rules e) in
     ap (λ b. b || list_any (λ place. f (rule_cells t place)) (range_with_len (k + 1) (length rules))) here ∙ ap (λ b. f r.cells || b) rest
 
--- the uncovered cells of no columns
-pub end_is : (t : Table) (column : ℕ) (rules : List ℕ) (columns : List (List Region)) → length columns ≡ 0 → filter (uncovered t column rules) (cells columns) ≡ cond (eqb (length rules) 0) ([] ∷ []) []
-end_is t column rules [] e = ap (λ b. cond b ([] ∷ []) []) (uncovered_end t column rules)
-end_is t column rules (c ∷ cs) e = absurd (omega (arith, e))
-
 -- a cell is uncovered by all rules from the first column on if and only if no rule covers it
 pub gap_is : (t : Table) (cell : List Region) → uncovered t 0 (range_with_len 0 (length t.rules)) cell ≡ not (list_any (λ r. covers r.cells cell) t.rules)
 gap_is t cell = ap not (any_by_place (λ rule. covers rule cell) t 0 t.rules refl)
-
--- the cells that no rule covers are those that all rules leave uncovered from the first column on
-pub gaps_are : (t : Table) (columns : List (List Region)) → filter (uncovered t 0 (range_with_len 0 (length t.rules))) (cells columns) ≡ filter (λ cell. not (list_any (λ r. covers r.cells cell) t.rules)) (cells columns)
-gaps_are t columns =
-    filter_agree (uncovered t 0 (range_with_len 0 (length t.rules))) (λ cell. not (list_any (λ r. covers r.cells cell) t.rules))
-    (gap_is t) (cells columns)

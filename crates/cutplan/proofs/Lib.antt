@@ -1,5 +1,4 @@
 pub mod Steps
-pub mod Placed
 pub mod Covering
 pub mod Counting
 pub mod Pairing
@@ -23,7 +22,6 @@ pub mod Compiling
 pub mod CompiledAnswers
 pub mod Valuing
 pub mod ByMasks
-pub mod RuleCounts
 pub mod FirstRules
 pub mod MaskLists
 pub mod TextSearch
@@ -33,8 +31,8 @@ pub mod Between
 pub mod CellProbes
 pub mod Meeting
 pub mod Places
+pub mod CellPlaces
 pub mod Sorting
-pub mod RuleSubsets
 pub mod Ranking
 pub mod ClassValues
 pub mod Literals

@@ -9,12 +9,12 @@ use Rattle.feel_tests.specs.Holds.{holds}
 use Rattle.feel_tests.specs.declared.cell.Cell.{Cell}
 use Rattle.feel_tests.specs.declared.kind.Kind.{Kind}
 use Rattle.feel_tests.specs.declared.value.Value.{Value}
-use Rattle.dtable.specs.declared.environment.Answer.{Answer}
-use Rattle.dtable.specs.declared.inputs.Slot.{Slot}
-use Rattle.dtable.specs.declared.table.Input.{Input}
-use Rattle.dtable.specs.declared.table.Table.{Table}
-use Rattle.dtable.specs.Matching.{value_read, holds_of, cells_hold, rule_matches, matching, is_outside}
-use Rattle.dtable.specs.Plan.{PlanParts, has_kind}
+use Rattle.tables.specs.declared.environment.Answer.{Answer}
+use Rattle.tables.specs.declared.inputs.Slot.{Slot}
+use Rattle.tables.specs.declared.table.Input.{Input}
+use Rattle.tables.specs.declared.table.Table.{Table}
+use Rattle.tables.specs.Matching.{value_read, holds_of, cells_hold, rule_matches, matching, is_outside}
+use Rattle.tables.specs.Plan.{PlanParts, has_kind}
 use Rattle.cutplan.specs.declared.region.Region.{Region}
 use Rattle.cutplan.specs.Values.{is_value, kind_read, sort_values}
 use Rattle.cutplan.specs.Regions.{Column, columns, columns_from, column_of, column_literals, rule_literals, literals, regions, stretches, has_value, holds_in, is_listed, is_allowed, is_in, table_regions}

@@ -5,7 +5,7 @@ use Rattle.std.specs.Prelude.{int_le}
 use Rattle.std.specs.Int.{int_max}
 use Rattle.std.specs.Int.RustNames.{unsigned_abs}
 use Rattle.feel_tests.specs.Value.{kind_of}
-use Rattle.dtable.specs.Plan.{has_kind}
+use Rattle.tables.specs.Plan.{has_kind}
 use Rattle.std.specs.List.{list_any}
 use Rattle.std.specs.Option.{option_map_or}
 use Rattle.std.proofs.lemmas.Int.{ints, by_lt_z}

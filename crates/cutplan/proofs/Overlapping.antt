@@ -1,15 +1,15 @@
 -- A pair of rules shares an allowed tuple if and only if it is listed.
-use Rattle.std.proofs.Common.{◌≡◌, ℕ, zero, suc, ◌+◌, ◌-◌, ◌≤◌, ◌<◌, inl, inr, ◌&&◌, ◌||◌, Bool, true, false, cond, List, [], ◌∷◌, length, drop, map, filter, Option, Some, None, Contains, refl, ap, sym, ◌∙◌, subst, add-one, arith}
+use Rattle.std.proofs.Common.{◌≡◌, ℕ, zero, suc, ◌+◌, ◌-◌, ◌≤◌, ◌<◌, inl, inr, ◌&&◌, ◌||◌, Bool, true, false, cond, List, [], ◌∷◌, length, get_or, drop, map, filter, Option, Some, None, Contains, refl, ap, sym, ◌∙◌, subst, add-one, arith}
 use Rattle.std.specs.List.{flat_map, list_any, list_all, range_with_len, enumerate_from, slice_get}
 use Rattle.std.specs.Option.{option_map_or}
 use Rattle.std.proofs.lemmas.Bool.{both_ways, and_parts, and_from, cases_lt}
 use Rattle.feel_tests.specs.Holds.{holds}
 use Rattle.feel_tests.specs.declared.cell.Cell.{Cell}
 use Rattle.feel_tests.specs.declared.value.Value.{Value}
-use Rattle.dtable.specs.declared.table.Input.{Input}
-use Rattle.dtable.specs.declared.table.Rule.{Rule}
-use Rattle.dtable.specs.declared.table.Table.{Table}
-use Rattle.dtable.specs.Plan.{PlanParts}
+use Rattle.tables.specs.declared.table.Input.{Input}
+use Rattle.tables.specs.declared.table.Rule.{Rule}
+use Rattle.tables.specs.declared.table.Table.{Table}
+use Rattle.tables.specs.Plan.{PlanParts}
 use Rattle.cutplan.specs.declared.region.Region.{Region}
 use Rattle.cutplan.specs.Regions.{columns_from, column_of, regions, is_allowed, is_in, holds_in, table_regions}
 use Rattle.cutplan.specs.Check.{is_allowed_tuple, fits, rule_cells, holds_at, meet, meet_in, overlaps, pairs, pairs_with}
@@ -23,6 +23,12 @@ use Rattle.cutplan.proofs.Holding.{allowed_holder, among_passes}
 -- the rule's cell in a column holds for a value; a missing cell holds for every value
 abbrev asks_of : Table → ℕ → ℕ → Value → Bool
 asks_of t place column v = option_map_or (λ c. holds c v) (slice_get (rule_cells t place) column) true
+
+-- the element at an index does not depend on the default for shorter lists
+pub at_or : {X : Type 0} (xs : List X) (i : ℕ) (d : X) → i < length xs → slice_get xs i ≡ Some (get_or xs i d)
+at_or [] i d below = absurd (omega (arith, below))
+at_or (x ∷ xs) zero d below = refl
+at_or (x ∷ xs) (suc i) d below = at_or xs i d (omega (arith, below))
 
 -- the element at an index is in the list
 pub among_place : {X : Type 0} (xs : List X) (n : ℕ) (x : X) → slice_get xs n ≡ Some x → Among x xs

@@ -10,9 +10,9 @@ use Rattle.feel_tests.specs.declared.kind.Kind.{Kind}
 use Rattle.feel_tests.specs.declared.kind.Kind.TheVariants as kinds
 use Rattle.feel_tests.specs.declared.value.Value.{Value}
 use Rattle.feel_tests.specs.declared.value.Value.TheVariants.{Number, Text, Flag, Day}
-use Rattle.dtable.specs.declared.table.Input.{Input}
-use Rattle.dtable.specs.declared.table.Table.{Table}
-use Rattle.dtable.specs.Plan.{PlanParts, has_kind}
+use Rattle.tables.specs.declared.table.Input.{Input}
+use Rattle.tables.specs.declared.table.Table.{Table}
+use Rattle.tables.specs.Plan.{PlanParts, has_kind}
 use Rattle.cutplan.specs.declared.region.Region.{Region}
 use Rattle.cutplan.specs.declared.region.Region.TheVariants.{At, Other}
 use Rattle.cutplan.specs.Values.{is_value, kind_read, sort_values}

@@ -4,7 +4,7 @@ use Rattle.std.specs.List.{flat_map, enumerate_from, range_with_len, slice_get}
 use Rattle.std.specs.Option.{option_map_or}
 use Rattle.std.proofs.lemmas.List.{length-map}
 use Rattle.std.proofs.lemmas.List.Concat.{flat_map-append}
-use Rattle.dtable.specs.declared.table.Table.{Table}
+use Rattle.tables.specs.declared.table.Table.{Table}
 use Rattle.cutplan.specs.declared.region.Region.{Region}
 use Rattle.cutplan.specs.Check.{cells, gaps}
 use Rattle.cutplan.specs.CheckSteps.{alive_in, uncovered}
@@ -111,7 +111,7 @@ at_length [] x xs = refl
 at_length (y ∷ ys) x xs = at_length ys x xs
 
 -- the items at the indices that pass a test are those that pass it
-items_at : {X : Type 0} (test : X → Bool) (front xs : List X) → map (slice_get (front ++ xs)) (places test (length front) xs) ≡ map (λ x. Some x) (filter test xs)
+pub items_at : {X : Type 0} (test : X → Bool) (front xs : List X) → map (slice_get (front ++ xs)) (places test (length front) xs) ≡ map (λ x. Some x) (filter test xs)
 items_at test front [] = refl
 items_at {X} test front (x ∷ xs) =
     let k : ℕ = length front in

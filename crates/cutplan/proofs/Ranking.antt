@@ -3,10 +3,10 @@ use Rattle.std.proofs.Common.{◌≡◌, ℕ, ◌≤◌, ◌&&◌, List, [], ◌
 use Rattle.std.specs.List.{find, range_with_len}
 use Rattle.std.specs.Option.{IfSome}
 use Rattle.std.proofs.lemmas.Bool.{lt-ltb}
-use Rattle.dtable.specs.declared.hit.Hit.TheVariants.{P}
-use Rattle.dtable.specs.declared.table.Table.{Table}
-use Rattle.dtable.specs.HitPolicy.{by_hit, of_rule}
-use Rattle.dtable.specs.Priority.{all_ranked, highest_rule, in_priority_order, RankedOnce}
+use Rattle.tables.specs.declared.hit.Hit.TheVariants.{P}
+use Rattle.tables.specs.declared.table.Table.{Table}
+use Rattle.tables.specs.HitPolicy.{by_hit, of_rule}
+use Rattle.tables.specs.Priority.{all_ranked, highest_rule, in_priority_order, RankedOnce}
 use Rattle.cutplan.specs.CompiledAnswers.{is_in_mask, ordered_by, ranked_rules}
 use Rattle.cutplan.specs.Masks.{has_rule, rules_in}
 use Rattle.cutplan.proofs.MaskLists.{filter_alike}

@@ -9,7 +9,7 @@ use Rattle.feel_tests.specs.declared.value.Value.{Value}
 use Rattle.feel_tests.specs.declared.value.Value.TheVariants.{Number, Text, Flag, Day}
 use Rattle.cutplan.specs.declared.region.Region.{Region}
 use Rattle.cutplan.specs.declared.region.Region.TheVariants.{At, Other}
-use Rattle.dtable.specs.Plan.{has_kind}
+use Rattle.tables.specs.Plan.{has_kind}
 use Rattle.cutplan.specs.Values.{sort_values}
 use Rattle.cutplan.specs.Regions.{stretches, regions_of_order, regions_of_names, is_in}
 use Rattle.cutplan.proofs.Alike.{Each, Among, each_at, Alike, Apart, alike_apart, alike_same, alike_number, alike_day}
@@ -46,6 +46,12 @@ text_is (Number a) e = absurd (both_ways false refl e)
 text_is (Text a) e = (a, refl)
 text_is (Flag a) e = absurd (both_ways false refl e)
 text_is (Day a) e = absurd (both_ways false refl e)
+
+pub flag_is : (v : Value) → has_kind kinds.Flag v ≡ true → (b : Bool) × (v ≡ Flag b)
+flag_is (Number a) e = absurd (both_ways false refl e)
+flag_is (Text a) e = absurd (both_ways false refl e)
+flag_is (Flag a) e = (a, refl)
+flag_is (Day a) e = absurd (both_ways false refl e)
 
 each_filter : (p : Value → Bool) (P : Value → Type 0) → ((x : Value) → p x ≡ true → P x) → (xs : List Value) → Each P (filter p xs)
 each_filter p P f [] = tt
@@ -107,13 +113,13 @@ text_day t d = record { equal = refl; less = refl; more = refl; at_most = refl; 
 pub text_text : (t u : List ℕ) → is_equal (Text t) (Text u) ≡ false → Apart (Text t) (Text u)
 text_text t u e = record { equal = e; less = refl; more = refl; at_most = refl; at_least = refl }
 
-flag_number : (b : Bool) (a : ℤ) → Apart (Flag b) (Number a)
+pub flag_number : (b : Bool) (a : ℤ) → Apart (Flag b) (Number a)
 flag_number b a = record { equal = refl; less = refl; more = refl; at_most = refl; at_least = refl }
 
-flag_text : (b : Bool) (t : List ℕ) → Apart (Flag b) (Text t)
+pub flag_text : (b : Bool) (t : List ℕ) → Apart (Flag b) (Text t)
 flag_text b t = record { equal = refl; less = refl; more = refl; at_most = refl; at_least = refl }
 
-flag_day : (b : Bool) (d : ℤ) → Apart (Flag b) (Day d)
+pub flag_day : (b : Bool) (d : ℤ) → Apart (Flag b) (Day d)
 flag_day b d = record { equal = refl; less = refl; more = refl; at_most = refl; at_least = refl }
 
 number_among : (c : ℤ) (zs : List ℤ) → Among (Number c) (map Number zs) → Among c zs

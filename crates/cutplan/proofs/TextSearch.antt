@@ -1,22 +1,21 @@
 -- The region of other texts: the meaning of a binary search in the named texts, which are in
 -- increasing order.
-use Rattle.std.proofs.Common.{◌≡◌, ℕ, zero, suc, ◌+◌, ◌<◌, ◌≤◌, ◌||◌, ◌⊎◌, inl, inr, Bool, true, false, List, [], ◌∷◌, ◌++◌, length, get_or, map, filter, Some, None, Contains, refl, ap, sym, ◌∙◌, subst, arith}
+use Rattle.std.proofs.Common.{◌≡◌, ℕ, zero, suc, ◌+◌, ◌<◌, ◌≤◌, ◌||◌, ◌⊎◌, inl, inr, Bool, true, false, List, [], ◌∷◌, ◌++◌, length, get_or, map, filter, Contains, refl, ap, sym, ◌∙◌, subst, arith}
 use Rattle.std.specs.Prelude.{nat_lt, Result, Ok, Err}
-use Rattle.std.specs.List.{list_any, slice_get}
+use Rattle.std.specs.List.{list_any}
 use Rattle.std.specs.List.Sorted.{IsBinarySearchResult, IsSearchInRange}
 use Rattle.std.specs.Ordering.{nat_cmp, is_lt, is_eq, ordering_reverse}
 use Rattle.std.specs.declared.cmp.Ordering.{Ordering}
 use Rattle.std.specs.declared.cmp.Ordering.TheVariants.{Less, Equal, Greater}
 use Rattle.std.specs.Cmp.Lexicographic.{slice_cmp, nat_list_cmp_total, texts_ties}
-use Rattle.std.proofs.lemmas.Bool.{both_ways, lt-ltb}
 use Rattle.std.proofs.lemmas.List.Sorted.{searchable_from_sorted}
 use Rattle.feel_tests.specs.Holds.{is_equal}
 use Rattle.feel_tests.specs.declared.kind.Kind.{Kind}
 use Rattle.feel_tests.specs.declared.kind.Kind.TheVariants as kinds
 use Rattle.feel_tests.specs.declared.value.Value.{Value}
 use Rattle.feel_tests.specs.declared.value.Value.TheVariants.{Text, Flag}
-use Rattle.dtable.specs.declared.table.Table.{Table}
-use Rattle.dtable.specs.Plan.{has_kind}
+use Rattle.tables.specs.declared.table.Table.{Table}
+use Rattle.tables.specs.Plan.{has_kind}
 use Rattle.cutplan.specs.declared.compiled_column.CompiledColumn.{CompiledColumn}
 use Rattle.cutplan.specs.declared.region.Region.{Region}
 use Rattle.cutplan.specs.declared.region.Region.TheVariants.{At, Other}
@@ -29,16 +28,9 @@ use Rattle.cutplan.proofs.ByMasks.{found_at, input_at}
 use Rattle.cutplan.proofs.ColumnWise.{among_contained, among_unfilter}
 use Rattle.cutplan.proofs.CutLists.{rising_only}
 use Rattle.cutplan.proofs.CutOrder.{Rises, cuts_of_kind, rises_at, is_less_so}
-use Rattle.cutplan.proofs.FirstRules.{less_alike}
 use Rattle.cutplan.proofs.Holding.{among_passes}
-use Rattle.cutplan.proofs.Overlapping.{among_place, any_at, contained_among}
+use Rattle.cutplan.proofs.Overlapping.{among_place, any_at, at_or, contained_among}
 use Rattle.cutplan.proofs.Regionwise.{text_is}
-
--- the element at an index does not depend on the default for shorter lists
-at_or : {X : Type 0} (xs : List X) (i : ℕ) (d : X) → i < length xs → slice_get xs i ≡ Some (get_or xs i d)
-at_or [] i d below = absurd (omega (arith, below))
-at_or (x ∷ xs) zero d below = refl
-at_or (x ∷ xs) (suc i) d below = at_or xs i d (omega (arith, below))
 
 -- two texts are equal if and only if their comparison says so
 equal_text : (text : List ℕ) (name : Value) → has_kind kinds.Text name ≡ true → is_equal (Text text) name ≡ is_eq (slice_cmp nat_cmp (bytes_of name) text)
@@ -149,18 +141,11 @@ others_of kinds.Flag lits names (inr (inr none)) = absurd none
 others_of kinds.Text lits names at =
     let cuts = sort_values (filter (has_kind kinds.Text) lits) in
     subst AreRisingTexts (other_in_named cuts names at)
-    (rising_texts cuts (cuts_of_kind kinds.Text lits (λ e. absurd cc)) (λ name there. among_passes (has_kind kinds.Text) name lits (rising_only (filter (has_kind kinds.Text) lits) name there)))
+    (rising_texts cuts (cuts_of_kind kinds.Text lits) (λ name there. among_passes (has_kind kinds.Text) name lits (rising_only (filter (has_kind kinds.Text) lits) name there)))
 
 -- the region at an index is one of the regions
 pub other_at : (regions : List Region) (place : ℕ) (r : Region) (names : List Value) → true ≡ nat_lt place (length regions) → r ≡ get_or regions place r → r ≡ Other names → Contains regions (Other names)
 other_at regions place r names below is other = contained_among regions (Other names) (subst (λ x. Among x regions) other (among_place regions place r (found_at regions place r below is)))
-
--- an index after the last one has no element
-pub nothing_at : {X : Type 0} (xs : List X) (place : ℕ) → false ≡ nat_lt place (length xs) → slice_get xs place ≡ None
-nothing_at [] place none = refl
-nothing_at (x ∷ xs) zero none = absurd (both_ways false refl (none ∙ lt-ltb 0 (length (x ∷ xs)) (omega arith)))
-nothing_at (x ∷ xs) (suc place) none =
-    nothing_at xs place (none ∙ less_alike (suc place) (suc (length xs)) place (length xs) (λ less. omega (arith, less)) (λ more. omega (arith, more)))
 
 -- this holds for each compiled column
 pub column_others : (t : Table) (kept : List CompiledColumn) (i : ℕ) (column : CompiledColumn) → AreKept t kept → i < length kept → column ≡ get_or kept i column → OthersRise column.partition.regions.items

@@ -1,13 +1,13 @@
 -- The tables of a plan, one after another: the answers of the next table, or its fault.
 use Rattle.std.proofs.Common.{◌≡◌, ◌≢◌, ℕ, ◌+◌, ◌<◌, List, [], ◌∷◌, ◌++◌, length, get_or, drop, Result, Ok, Err, ap, sym, ◌∙◌}
 use Rattle.std.proofs.lemmas.List.{drop_more}
-use Rattle.dtable.specs.declared.environment.Answer.{Answer}
+use Rattle.tables.specs.declared.environment.Answer.{Answer}
 use Rattle.faults.specs.declared.fault.Fault.{Fault}
 use Rattle.faults.specs.declared.fault.Fault.TheVariants.{OutOfMemory}
-use Rattle.dtable.specs.declared.inputs.Slot.{Slot}
-use Rattle.dtable.specs.declared.table.Table.{Table}
-use Rattle.dtable.specs.Environment.{answers_of, table_value, and_then}
-use Rattle.dtable.specs.HitPolicy.{TableValue}
+use Rattle.tables.specs.declared.inputs.Slot.{Slot}
+use Rattle.tables.specs.declared.table.Table.{Table}
+use Rattle.tables.specs.Environment.{answers_of, table_value, and_then}
+use Rattle.tables.specs.HitPolicy.{TableValue}
 
 -- the tables from one on
 from_table : (given : List Slot) (answers : List (List Answer)) (tables : List Table) (i : ℕ) (t : Table) → i < length tables → t ≡ get_or tables i t

@@ -6,17 +6,17 @@ use Rattle.std.specs.List.{filter_map, list_all}
 use Rattle.std.specs.Option.{option_map_or}
 use Rattle.std.specs.Cmp.Lexicographic.{pointwise_decides}
 use Rattle.std.proofs.lemmas.Bool.{and_parts, both_ways}
-use Rattle.dtable.specs.declared.environment.Answer.{Answer}
+use Rattle.tables.specs.declared.environment.Answer.{Answer}
 use Rattle.faults.specs.declared.fault.Fault.TheVariants.{NoRule, Clash}
-use Rattle.dtable.specs.declared.hit.Hit.{Hit}
-use Rattle.dtable.specs.declared.hit.Hit.TheVariants as hits
-use Rattle.dtable.specs.declared.inputs.Slot.{Slot}
-use Rattle.dtable.specs.declared.table.Table.{Table}
-use Rattle.dtable.specs.Environment.{inside, number_after, table_value}
-use Rattle.dtable.specs.HitPolicy.{TableValue, agree, any, by_hit, ones, unique, no_match_value}
-use Rattle.dtable.specs.Matching.{matching, first_outside}
-use Rattle.dtable.specs.Plan.{PlanParts, gives_one}
-use Rattle.dtable.specs.Priority.{entries_of}
+use Rattle.tables.specs.declared.hit.Hit.{Hit}
+use Rattle.tables.specs.declared.hit.Hit.TheVariants as hits
+use Rattle.tables.specs.declared.inputs.Slot.{Slot}
+use Rattle.tables.specs.declared.table.Table.{Table}
+use Rattle.tables.specs.Environment.{inside, number_after, table_value}
+use Rattle.tables.specs.HitPolicy.{TableValue, agree, any, by_hit, ones, unique, no_match_value}
+use Rattle.tables.specs.Matching.{matching, first_outside}
+use Rattle.tables.specs.Plan.{PlanParts, gives_one}
+use Rattle.tables.specs.Priority.{entries_of}
 use Rattle.cutplan.proofs.Alike.{Among}
 use Rattle.cutplan.proofs.ColumnWise.{among_contained}
 use Rattle.cutplan.proofs.CutLists.{equal_same, equal_from}

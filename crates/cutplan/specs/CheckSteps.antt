@@ -1,59 +1,41 @@
 -- Steps of the check and of the compilation of columns.
-use Rattle.std.specs.Prelude.{ℕ, ◌-◌, ◌≡◌, ◌==◌, nat_le, Bool, true, false, not, ◌&&◌, ◌||◌, List, [], ◌∷◌, map, filter, length, drop, Option, Some, None, slice_get, IsTrue, if◌then◌else◌}
-use Rattle.std.specs.List.{list_any, list_all, AllZip}
+use Rattle.std.specs.Prelude.{ℕ, ◌-◌, ◌≡◌, ◌==◌, nat_le, Bool, true, false, not, ◌&&◌, ◌||◌, List, [], ◌∷◌, ◌++◌, map, filter, length, drop, Option, Some, None, slice_get, IsTrue, if◌then◌else◌}
+use Rattle.std.specs.List.{list_any, list_all, All, AllZip}
 use Rattle.std.specs.Option.{option_map_or}
-use Rattle.feel_tests.specs.Holds.{is_equal, holds}
+use Rattle.feel_tests.specs.Holds.{holds}
 use Rattle.feel_tests.specs.declared.cell.Cell.{Cell}
 use Rattle.feel_tests.specs.declared.kind.Kind.{Kind}
-use Rattle.feel_tests.specs.declared.kind.Kind.TheVariants as kinds
 use Rattle.feel_tests.specs.declared.value.Value.{Value}
-use Rattle.dtable.specs.declared.table.Rule.{Rule}
-use Rattle.dtable.specs.declared.table.Table.{Table}
+use Rattle.tables.specs.declared.table.Rule.{Rule}
+use Rattle.tables.specs.declared.table.Table.{Table}
 use Rattle.cutplan.specs.declared.region.Region.{Region}
 use Rattle.cutplan.specs.declared.region.Region.TheVariants.{Below, At, Between, Above, Other, Every}
-use Rattle.dtable.specs.Plan.{has_kind}
+use Rattle.tables.specs.Plan.{has_kind}
 use Rattle.cutplan.specs.Masks.{has_rule, Marks}
 use Rattle.cutplan.specs.Regions.{rule_literals, least_like, next, holds_in}
-use Rattle.cutplan.specs.Values.{is_before, with_value, sort_values}
+use Rattle.cutplan.specs.Values.{is_before, sort_values}
 use Rattle.cutplan.specs.Check.{covers, holds_at, rule_cells}
 
--- the cuts with one more literal, if it is of the kind
+-- the literals with one more, if it is of the kind
 abbrev pub with_literal : Kind → List Value → Value → List Value
-with_literal kind cuts v = if has_kind kind v then with_value cuts v else cuts
-
--- the values of the kind have an order; texts are ordered by their bytes, although no test of a
--- cell compares them
-abbrev pub can_be_sorted : Kind → Bool
-can_be_sorted kinds.Number = true
-can_be_sorted kinds.Text = true
-can_be_sorted kinds.Flag = false
-can_be_sorted kinds.Day = true
+with_literal kind literals v = if has_kind kind v then literals ++ v ∷ [] else literals
 
 -- each value is of the kind and before all later ones
 abbrev pub rises : Kind → List Value → Bool
 rises kind [] = true
 rises kind (v ∷ vs) = (has_kind kind v && list_all (is_before v) vs) && rises kind vs
 
--- the kind has an order, and the cuts are of the kind and strictly increasing
-abbrev pub is_risen : Kind → List Value → Bool
-is_risen kind cuts = can_be_sorted kind && rises kind cuts
-
--- the kind has an order, and the values are of the kind
-abbrev pub are_ordered : Kind → List Value → Bool
-are_ordered kind values = can_be_sorted kind && list_all (has_kind kind) values
-
--- the value is at this index
-abbrev pub is_at : List Value → ℕ → Value → Bool
-is_at cuts place v = option_map_or (λ cut. is_equal cut v) (slice_get cuts place) false
+-- the values are of the kind
+abbrev pub AreOfKind : Kind → List Value → Type 0
+AreOfKind kind values = All (λ v. IsTrue (has_kind kind v)) values
 
 -- the value lies strictly between the cuts before and at the index, as far as they exist
 abbrev pub fits_at : List Value → ℕ → Value → Bool
 fits_at cuts place v = option_map_or (λ cut. is_before v cut) (slice_get cuts place) true && (place == 0 || option_map_or (λ cut. is_before cut v) (slice_get cuts (place - 1)) true)
 
--- the kind has an order, the value is of the kind, and it lies strictly between the cuts before and
--- at the index
+-- the value is of the kind, and it lies strictly between the cuts before and at the index
 abbrev pub is_located_at : Kind → List Value → ℕ → Value → Bool
-is_located_at kind cuts place v = ((can_be_sorted kind && has_kind kind v) && nat_le place (length cuts)) && fits_at cuts place v
+is_located_at kind cuts place v = (has_kind kind v && nat_le place (length cuts)) && fits_at cuts place v
 
 -- the literals of the kind in a rule's cell of a column, in increasing order
 abbrev pub own_cuts : Kind → ℕ → Rule → List Value

@@ -6,17 +6,17 @@ use Rattle.std.specs.Option.{option_map_or}
 use Rattle.feel_tests.specs.declared.cell.Cell.{Cell}
 use Rattle.feel_tests.specs.declared.value.Value.{Value}
 use Rattle.faults.specs.declared.fault.Fault.{Fault}
-use Rattle.dtable.specs.declared.environment.Answer.{Answer}
-use Rattle.dtable.specs.declared.inputs.Slot.{Slot}
-use Rattle.dtable.specs.declared.table.Input.{Input}
-use Rattle.dtable.specs.declared.table.Origin.{Origin}
-use Rattle.dtable.specs.declared.table.Origin.TheVariants.{Given, Earlier}
-use Rattle.dtable.specs.declared.table.Table.{Table}
-use Rattle.dtable.specs.Environment.{and_then, answers_of, inside, number_after}
-use Rattle.dtable.specs.HitPolicy.{TableValue, by_hit}
-use Rattle.dtable.specs.Inputs.{needs, value_at}
-use Rattle.dtable.specs.Matching.{earlier_value, holds_of}
-use Rattle.dtable.specs.Plan.{PlanParts, has_kind}
+use Rattle.tables.specs.declared.environment.Answer.{Answer}
+use Rattle.tables.specs.declared.inputs.Slot.{Slot}
+use Rattle.tables.specs.declared.table.Input.{Input}
+use Rattle.tables.specs.declared.table.Origin.{Origin}
+use Rattle.tables.specs.declared.table.Origin.TheVariants.{Given, Earlier}
+use Rattle.tables.specs.declared.table.Table.{Table}
+use Rattle.tables.specs.Environment.{and_then, answers_of, inside, number_after}
+use Rattle.tables.specs.HitPolicy.{TableValue, by_hit}
+use Rattle.tables.specs.Inputs.{needs, value_at}
+use Rattle.tables.specs.Matching.{earlier_value, holds_of}
+use Rattle.tables.specs.Plan.{PlanParts, has_kind}
 use Rattle.cutplan.specs.declared.region.Region.{Region}
 use Rattle.cutplan.specs.Regions.{holds_in, is_in, stretches}
 use Rattle.cutplan.specs.Values.{is_value, sort_values}

@@ -1,18 +1,18 @@
 -- The precomputed answers of a plan's tables.
-use Rattle.std.specs.Prelude.{◌≡◌, ℕ, ◌^◌, nat_lt, nat_le, if◌then◌else◌, Bool, ◌&&◌, List, [], ◌∷◌, length, map, Option, Some, None, Ok, Err}
+use Rattle.std.specs.Prelude.{◌≡◌, ℕ, nat_lt, Bool, ◌&&◌, List, [], ◌∷◌, length, map, Option, Some, None, Ok, Err}
 use Rattle.std.specs.List.{range_with_len}
-use Rattle.dtable.specs.declared.environment.Answer.{Answer}
-use Rattle.dtable.specs.declared.hit.Hit.{Hit}
-use Rattle.dtable.specs.declared.hit.Hit.TheVariants.{O, P}
-use Rattle.dtable.specs.declared.table.Table.{Table}
-use Rattle.dtable.specs.HitPolicy.{TableValue, by_hit}
-use Rattle.dtable.specs.Plan.{PlanParts}
-use Rattle.dtable.specs.Priority.{all_ranked}
+use Rattle.tables.specs.declared.environment.Answer.{Answer}
+use Rattle.tables.specs.declared.hit.Hit.{Hit}
+use Rattle.tables.specs.declared.hit.Hit.TheVariants.{O, P}
+use Rattle.tables.specs.declared.table.Table.{Table}
+use Rattle.tables.specs.HitPolicy.{TableValue, by_hit}
+use Rattle.tables.specs.Plan.{PlanParts}
+use Rattle.tables.specs.Priority.{all_ranked}
 use Rattle.cutplan.specs.declared.compiled_column.CompiledColumn.{CompiledColumn}
 use Rattle.cutplan.specs.declared.compiled_answers.CompiledAnswers.{CompiledAnswers}
 use Rattle.cutplan.specs.declared.input_class.CompiledName.{CompiledName}
 use Rattle.cutplan.specs.CompiledColumns.{IsCut}
-use Rattle.cutplan.specs.Masks.{has_rule, rules_in}
+use Rattle.cutplan.specs.Masks.{has_rule}
 use Rattle.cutplan.specs.InputClasses.{AreCompiledNames, ReadsItsNames}
 
 -- the answers of a table's value, unless it is a fault
@@ -35,22 +35,10 @@ ordered_by _ t = []
 abbrev pub ranked_rules : Table → List ℕ
 ranked_rules t = ordered_by t.hit t
 
--- the number of subsets of the rules if there are few rules, and zero otherwise
-abbrev pub set_count : ℕ → ℕ
-set_count rules = if nat_le rules 6 then 2 ^ rules else 0
-
--- the answers if exactly the rules of a subset match; the bits of its index are its rules
-abbrev pub answers_of_set : Table → ℕ → Option (List Answer)
-answers_of_set t set = answers_of_rules t (rules_in (length t.rules) (set ∷ 0 ∷ 0 ∷ 0 ∷ []))
-
--- the answers for every subset of the rules, if the table has few rules
-abbrev pub sets_of : Table → List (Option (List Answer))
-sets_of t = map (answers_of_set t) (range_with_len 0 (set_count (length t.rules)))
-
--- the precomputed answers of a table: for no match, for each rule as the only match, and for every
--- subset of few rules; and the ranking of its rules
+-- the precomputed answers of a table, for no match and for each rule as the only match, and the
+-- ranking of its rules
 abbrev pub compiled_answers : Table → CompiledAnswers
-compiled_answers t = record { unmatched = answers_of_rules t []; alone = map (λ rule. answers_of_rules t (rule ∷ [])) (range_with_len 0 (length t.rules)); order = ranked_rules t; sets = sets_of t }
+compiled_answers t = record { unmatched = answers_of_rules t []; alone = map (λ rule. answers_of_rules t (rule ∷ [])) (range_with_len 0 (length t.rules)); order = ranked_rules t }
 
 -- the mask has the rule
 abbrev pub is_in_mask : List ℕ → ℕ → Bool

@@ -2,12 +2,12 @@
 use Rattle.std.specs.Prelude.{◌≡◌, ℕ, ◌+◌, ◌-◌, ◌≤◌, List, [], ◌∷◌, length, map, Some, slice_get, All}
 use Rattle.std.specs.List.{enumerate_from, AllZip}
 use Rattle.feel_tests.specs.declared.value.Value.{Value}
-use Rattle.dtable.specs.declared.environment.Answer.{Answer}
-use Rattle.dtable.specs.declared.inputs.Slot.{Slot}
-use Rattle.dtable.specs.declared.table.Input.{Input}
-use Rattle.dtable.specs.declared.table.Table.{Table}
-use Rattle.dtable.specs.Matching.{value_read}
-use Rattle.dtable.specs.Plan.{PlanParts}
+use Rattle.tables.specs.declared.environment.Answer.{Answer}
+use Rattle.tables.specs.declared.inputs.Slot.{Slot}
+use Rattle.tables.specs.declared.table.Input.{Input}
+use Rattle.tables.specs.declared.table.Table.{Table}
+use Rattle.tables.specs.Matching.{value_read}
+use Rattle.tables.specs.Plan.{PlanParts}
 use Rattle.cutplan.specs.declared.compiled_column.CompiledColumn.{CompiledColumn}
 use Rattle.cutplan.specs.declared.partition.Partition.{Partition}
 use Rattle.cutplan.specs.declared.region.Region.{Region}

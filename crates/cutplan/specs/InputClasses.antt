@@ -4,13 +4,13 @@ use Rattle.std.specs.Prelude.{◌≡◌, ℕ, ◌<◌, List, [], length, ◌+◌
 use Rattle.std.specs.List.{range_with_len, enumerate_from, zip, AllZip}
 use Rattle.feel_tests.specs.declared.kind.Kind.{Kind}
 use Rattle.feel_tests.specs.declared.value.Value.{Value}
-use Rattle.dtable.specs.declared.inputs.Slot.{Slot}
-use Rattle.dtable.specs.declared.table.Input.{Input}
-use Rattle.dtable.specs.declared.table.Origin.TheVariants.{Given}
-use Rattle.dtable.specs.declared.table.Table.{Table}
-use Rattle.dtable.specs.Environment.{env}
-use Rattle.dtable.specs.Inputs.{needs, reads, value_at}
-use Rattle.dtable.specs.Plan.{PlanParts, has_kind}
+use Rattle.tables.specs.declared.inputs.Slot.{Slot}
+use Rattle.tables.specs.declared.table.Input.{Input}
+use Rattle.tables.specs.declared.table.Origin.TheVariants.{Given}
+use Rattle.tables.specs.declared.table.Table.{Table}
+use Rattle.tables.specs.Environment.{env}
+use Rattle.tables.specs.Inputs.{needs, reads, value_at}
+use Rattle.tables.specs.Plan.{PlanParts, has_kind}
 use Rattle.cutplan.specs.declared.partition.Partition.{Partition}
 use Rattle.cutplan.specs.declared.region.Region.{Region}
 use Rattle.cutplan.specs.declared.input_class.CompiledName.{CompiledName}

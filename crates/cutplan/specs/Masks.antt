@@ -3,11 +3,11 @@ use Rattle.std.specs.Prelude.{◌≡◌, ℕ, ◌-◌, ◌/◌, ◌%◌, ◌<◌
 use Rattle.std.specs.List.{range_with_len, AllZip}
 use Rattle.std.specs.Option.{option_map_or}
 use Rattle.std.specs.Int.{bit_at}
-use Rattle.dtable.specs.declared.environment.Answer.{Answer}
-use Rattle.dtable.specs.declared.inputs.Slot.{Slot}
-use Rattle.dtable.specs.declared.table.Table.{Table}
-use Rattle.dtable.specs.Matching.{matching, rule_matches}
-use Rattle.dtable.specs.Plan.{PlanParts}
+use Rattle.tables.specs.declared.environment.Answer.{Answer}
+use Rattle.tables.specs.declared.inputs.Slot.{Slot}
+use Rattle.tables.specs.declared.table.Table.{Table}
+use Rattle.tables.specs.Matching.{matching, rule_matches}
+use Rattle.tables.specs.Plan.{PlanParts}
 use Rattle.cutplan.specs.declared.region.Region.{Region}
 use Rattle.cutplan.specs.Regions.{table_regions}
 use Rattle.cutplan.specs.Check.{holds_at}

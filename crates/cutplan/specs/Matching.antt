@@ -1,6 +1,6 @@
 -- The search for the matching rules by the masks of a table's columns. Tables, rules, columns and
 -- regions are numbered from 0 here.
-use Rattle.std.specs.Prelude.{◌≡◌, ℕ, ◌-◌, ◌==◌, nat_lt, Bool, false, ◌&&◌, List, length, [], ◌∷◌, filter, None, Contains, slice_get, IsTrue}
+use Rattle.std.specs.Prelude.{◌≡◌, ℕ, ◌-◌, ◌==◌, nat_lt, Bool, false, ◌&&◌, List, length, [], filter, None, Contains, slice_get, IsTrue}
 use Rattle.std.specs.List.{range_with_len}
 use Rattle.std.specs.Int.{bit_at}
 use Rattle.std.specs.List.Sorted.{IsSortedBy}
@@ -10,13 +10,11 @@ use Rattle.std.specs.Option.{option_map_or}
 use Rattle.feel_tests.specs.declared.kind.Kind.TheVariants as kinds
 use Rattle.feel_tests.specs.declared.value.Value.{Value}
 use Rattle.feel_tests.specs.declared.value.Value.TheVariants.{Text}
-use Rattle.dtable.specs.declared.environment.Answer.{Answer}
-use Rattle.dtable.specs.declared.inputs.Slot.{Slot}
-use Rattle.dtable.specs.declared.table.Table.{Table}
-use Rattle.dtable.specs.Matching.{rule_matches, first_outside}
-use Rattle.dtable.specs.Plan.{has_kind}
-use Rattle.cutplan.specs.declared.rule_count.RuleCount.{RuleCount}
-use Rattle.cutplan.specs.declared.rule_count.RuleCount.TheVariants as few
+use Rattle.tables.specs.declared.environment.Answer.{Answer}
+use Rattle.tables.specs.declared.inputs.Slot.{Slot}
+use Rattle.tables.specs.declared.table.Table.{Table}
+use Rattle.tables.specs.Matching.{rule_matches, first_outside}
+use Rattle.tables.specs.Plan.{has_kind}
 use Rattle.cutplan.specs.declared.partition.Partition.{Partition}
 use Rattle.cutplan.specs.declared.region.Region.{Region}
 use Rattle.cutplan.specs.declared.region.Region.TheVariants.{Other}
@@ -57,9 +55,3 @@ pub record IsMatchingMask (given : List Slot) (earlier : List (List Answer)) (t 
 -- bit has the index `first`
 abbrev pub places_set : ℕ → ℕ → ℕ → List ℕ
 places_set word first width = filter (λ place. bit_at word (place - first) == 1) (range_with_len first width)
-
--- the count describes the rules: none, exactly this one, or more, which says nothing
-abbrev pub IsRuleCount : RuleCount → List ℕ → Type 0
-IsRuleCount few.None rules = rules ≡ []
-IsRuleCount (few.One rule) rules = rules ≡ rule ∷ []
-IsRuleCount few.More rules = Unit {0}

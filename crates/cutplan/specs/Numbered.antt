@@ -1,7 +1,7 @@
 -- The check of a table by the table's number in the plan, from 1.
 use Rattle.std.specs.Prelude.{◌≡◌, ℕ, ◌-◌, ◌≤◌, ◌<◌, List, [], length, slice_get}
 use Rattle.std.specs.Option.{option_map_or}
-use Rattle.dtable.specs.Plan.{PlanParts}
+use Rattle.tables.specs.Plan.{PlanParts}
 use Rattle.cutplan.specs.declared.fault.CheckFault.{CheckFault}
 use Rattle.cutplan.specs.declared.fault.CheckFault.TheVariants.{TooWide}
 use Rattle.cutplan.specs.declared.region.Region.{Region}

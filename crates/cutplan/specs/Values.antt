@@ -1,5 +1,5 @@
 -- The values that a column of a table can have, and their order. A text may have any length here.
-use Rattle.std.specs.Prelude.{ℕ, Bool, true, false, ◌&&◌, nat_le, List, [], ◌∷◌, slice_get, int_lt, int_le, if◌then◌else◌, fold}
+use Rattle.std.specs.Prelude.{ℕ, Bool, true, false, not, ◌&&◌, nat_le, List, [], ◌∷◌, slice_get, int_lt, int_le, if◌then◌else◌, fold}
 use Rattle.std.specs.List.{list_any}
 use Rattle.std.specs.Int.RustNames.{unsigned_abs}
 use Rattle.std.specs.Option.{option_map_or}
@@ -12,10 +12,10 @@ use Rattle.feel_tests.specs.declared.kind.Kind.{Kind}
 use Rattle.feel_tests.specs.declared.kind.Kind.TheVariants as kinds
 use Rattle.feel_tests.specs.declared.value.Value.{Value}
 use Rattle.feel_tests.specs.declared.value.Value.TheVariants.{Number, Text, Flag, Day}
-use Rattle.dtable.specs.declared.table.Origin.{Origin}
-use Rattle.dtable.specs.declared.table.Origin.TheVariants.{Given, Earlier}
-use Rattle.dtable.specs.declared.table.Table.{Table}
-use Rattle.dtable.specs.Plan.{PlanParts, read_kind_of}
+use Rattle.tables.specs.declared.table.Origin.{Origin}
+use Rattle.tables.specs.declared.table.Origin.TheVariants.{Given, Earlier}
+use Rattle.tables.specs.declared.table.Table.{Table}
+use Rattle.tables.specs.Plan.{PlanParts, read_kind_of}
 
 -- the kind of the values of an output of an earlier table; each input of a plan reads an output
 -- that exists
@@ -35,10 +35,11 @@ is_value kinds.Flag (Flag flag) = true
 is_value kinds.Day (Day day) = int_le first_day day && int_le day last_day
 is_value _ _ = false
 
--- the order of numbers and days, and the byte order of texts
+-- the order of numbers and days, the byte order of texts, and the flag `false` before `true`
 abbrev pub is_before : Value → Value → Bool
 is_before (Number a) (Number b) = int_lt a b
 is_before (Text a) (Text b) = is_lt (slice_cmp nat_cmp a b)
+is_before (Flag a) (Flag b) = not a && b
 is_before (Day a) (Day b) = int_lt a b
 is_before _ _ = false
 

@@ -1,12 +1,12 @@
 -- The law that relates errors of gaps and overlaps to the faults of tables.
 use Rattle.std.specs.Prelude.{◌≡◌, ℕ, ◌-◌, ◌≤◌, ◌<◌, ◌↔◌, List, [], Some, None, Err, slice_get, IsTrue}
-use Rattle.dtable.specs.declared.environment.Answer.{Answer}
+use Rattle.tables.specs.declared.environment.Answer.{Answer}
 use Rattle.faults.specs.declared.fault.Fault.TheVariants.{NoRule, Clash}
-use Rattle.dtable.specs.declared.inputs.Slot.{Slot}
-use Rattle.dtable.specs.declared.table.Table.{Table}
-use Rattle.dtable.specs.Environment.{number_after, table_value}
-use Rattle.dtable.specs.Matching.{matching, first_outside}
-use Rattle.dtable.specs.Plan.{PlanParts}
+use Rattle.tables.specs.declared.inputs.Slot.{Slot}
+use Rattle.tables.specs.declared.table.Table.{Table}
+use Rattle.tables.specs.Environment.{number_after, table_value}
+use Rattle.tables.specs.Matching.{matching, first_outside}
+use Rattle.tables.specs.Plan.{PlanParts}
 use Rattle.cutplan.specs.Laws.{MatchTogether}
 use Rattle.cutplan.specs.Violations.{gap_is_error, overlap_is_error}
 

@@ -3,11 +3,11 @@
 use Rattle.std.specs.Prelude.{ℕ, ◌-◌, Bool, true, false, not, ◌&&◌, Err, slice_get}
 use Rattle.std.specs.Option.{option_map_or}
 use Rattle.faults.specs.declared.fault.Fault.TheVariants.{NoRule}
-use Rattle.dtable.specs.declared.hit.Hit.{Hit}
-use Rattle.dtable.specs.declared.hit.Hit.TheVariants.{U, A}
-use Rattle.dtable.specs.declared.table.Table.{Table}
-use Rattle.dtable.specs.HitPolicy.{TableValue, agree, no_match_value}
-use Rattle.dtable.specs.Plan.{PlanParts, gives_one}
+use Rattle.tables.specs.declared.hit.Hit.{Hit}
+use Rattle.tables.specs.declared.hit.Hit.TheVariants.{U, A}
+use Rattle.tables.specs.declared.table.Table.{Table}
+use Rattle.tables.specs.HitPolicy.{TableValue, agree, no_match_value}
+use Rattle.tables.specs.Plan.{PlanParts, gives_one}
 
 -- the table has the fault that no rule matches
 abbrev pub is_no_rule : TableValue → Bool

@@ -15,10 +15,10 @@ use crate::cuts::own_cuts;
 use crate::mask::RuleMask;
 use crate::region::{Region, is_open, least_like, next};
 use crate::sorted_cuts::{find_place, is_located_at};
-use dtable::{Rule, Sequence, Table};
 use feel_tests::{Kind, Value};
 use std::alloc::{AllocError, Global};
 use std::marker::Model;
+use tables::{Rule, Sequence, Table};
 
 /// A rule's cell in a column, with the last answer. Contracts see it as the cell, if the rule has
 /// one. `cuts` are the sorted literals of the cell that have the column's kind. `answer` is the

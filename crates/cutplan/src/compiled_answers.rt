@@ -2,19 +2,18 @@
 //! own.
 ghost use Rattle.std.specs.Prelude.{◌≡◌, ◌≤◌, ◌∷◌, [], ℕ, Ok, IfOk, IfSome, find, length, map};
 ghost use Rattle.std.specs.List.{range_with_len};
-ghost use Rattle.dtable.specs.HitPolicy.{by_hit};
-ghost use Rattle.dtable.specs.Priority.{all_ranked, in_priority_order};
+ghost use Rattle.tables.specs.HitPolicy.{by_hit};
+ghost use Rattle.tables.specs.Priority.{all_ranked, in_priority_order};
 ghost use Rattle.cutplan.specs.CompiledAnswers.{answers_of_rules, is_in_mask, compiled_answers, ranked_rules};
 ghost use Rattle.cutplan.specs.Masks.{has_rule, rules_in};
 ghost use Rattle.cutplan.specs.declared.mask.TheConstants.{MASK_CAPACITY};
 
 use crate::mask::{MASK_CAPACITY, RuleMask};
-use crate::subset_answers::answers_of_sets;
-use dtable::{
+use std::alloc::{AllocError, Global};
+use tables::{
     Answer, Fault, Hit, Sequence, Table, answers_by_hit, in_priority_order, rules_agree,
     rules_are_ranked_once,
 };
-use std::alloc::{AllocError, Global};
 
 /// The precomputed answers of a table. An entry is `None` if the table has a fault instead of
 /// answers.
@@ -25,8 +24,6 @@ pub struct CompiledAnswers {
     pub alone: Sequence<Option<Sequence<Answer>>>,
     /// All rules in decreasing priority if the hit policy ranks rules, and no rules otherwise.
     pub order: Sequence<usize>,
-    /// The answers for every subset of the rules, or nothing if the table has too many rules.
-    pub sets: Sequence<Option<Sequence<Answer>>>,
 }
 
 impl Drop for CompiledAnswers {
@@ -35,7 +32,6 @@ impl Drop for CompiledAnswers {
             unmatched: _,
             alone: _,
             order: _,
-            sets: _,
         } = self;
     }
 }
@@ -61,7 +57,6 @@ fn compiled_answers(alloc: Global, table: &Table) -> Result<CompiledAnswers, All
         unmatched: answers_of_rules(alloc, table, &[])?,
         alone: answers_alone(alloc, table)?,
         order: ranked_rules(alloc, table)?,
-        sets: answers_of_sets(alloc, table)?,
     })
 }
 
@@ -80,9 +75,9 @@ fn answers_alone(
     Ok(alone)
 }
 
-/// Returns the answers of the table for these matching rules, or `None` if it has a fault. Only
-/// faults contain the number of a table, so the call passes an arbitrary one.
-pub fn answers_of_rules(
+// Returns the answers of the table for these matching rules, or `None` if it has a fault. Only
+// faults contain the number of a table, so the call passes an arbitrary one.
+fn answers_of_rules(
     alloc: Global,
     table: &Table,
     rules: &[usize],

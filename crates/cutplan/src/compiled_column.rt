@@ -11,9 +11,9 @@ use crate::cell_probe::{CellProbe, first_value, mask_of, probes_of};
 use crate::mask::RuleMask;
 use crate::partition::Partition;
 use crate::region::Region;
-use dtable::{Input, Origin, Plan, Sequence, Table};
 use feel_tests::Kind;
 use std::alloc::{AllocError, Global};
+use tables::{Input, Origin, Plan, Sequence, Table};
 
 /// A compiled input column: the input expression, the partition of the values that it reads, and
 /// the masks of the regions, in the same order.

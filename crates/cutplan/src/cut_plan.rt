@@ -1,8 +1,8 @@
 //! A compiled plan, which can be checked and which evaluates its tables by rule masks.
 ghost use Rattle.std.specs.Prelude.{◌≡◌, ◌≤◌, ◌<◌, ◌-◌, ◌+◌, ◌^◌, ℕ, [], false, Ok, Some, IfOk, IfErr, IfSome, OnOk, OnSome, length, slice_get};
-ghost use Rattle.dtable.specs.Environment.{answers_of, table_value};
-ghost use Rattle.dtable.specs.HitPolicy.{Gives, IsFaultOf, by_hit, lists};
-ghost use Rattle.dtable.specs.Priority.{all_ranked, in_priority_order};
+ghost use Rattle.tables.specs.Environment.{answers_of, table_value};
+ghost use Rattle.tables.specs.HitPolicy.{Gives, IsFaultOf, by_hit, lists};
+ghost use Rattle.tables.specs.Priority.{all_ranked, in_priority_order};
 ghost use Rattle.cutplan.specs.Check.{cells, gaps, overlaps};
 ghost use Rattle.cutplan.specs.Matching.{IsMatchingMask};
 ghost use Rattle.cutplan.specs.CompiledAnswers.{compiled_answers};
@@ -15,21 +15,20 @@ ghost use Rattle.cutplan.specs.InputClasses.{IsInputClass};
 use crate::compiled_answers::{CompiledAnswers, answers_of_tables, find_answers, ranked_in};
 use crate::compiled_column::{CompiledColumn, compiled_tables};
 use crate::fault::CheckFault;
+use crate::gap::gaps;
 use crate::input_class::{CompiledName, class_of, compiled_names};
 use crate::law::classes_answer_alike;
 use crate::mask::{INLINE_RULES, RuleMask};
 use crate::matching::matching_mask;
 use crate::region::Region;
-use crate::rule_count::{RuleCount, rule_count_of};
-use crate::subset_answers::find_subset_answers;
-use crate::table_check::{gaps_of, overlaps_of};
-use dtable::{
-    Answer, Answers, AnswersByTable, Env, Fault, Hit, InputClasses, Inputs, Plan, Sequence, Table,
-    Valuer, answers_by_hit, lists_of, table_value,
-};
+use crate::table_check::overlaps_of;
 use smallvec::SmallVec;
 use std::alloc::{AllocError, Global};
 use std::marker::Model;
+use tables::{
+    Answer, Answers, AnswersByTable, Env, Fault, Hit, InputClasses, Inputs, Plan, Sequence, Table,
+    Valuer, answers_by_hit, lists_of, table_value,
+};
 
 /// A plan that is compiled for checks and for evaluation by masks. Contracts see it as the plan. It
 /// borrows the plan and owns the regions of its columns with their masks, the precomputed answers
@@ -53,7 +52,7 @@ impl Drop for CutPlan<'_> {
 }
 
 impl<'a> Model for CutPlan<'a> {
-    ghost use Rattle.dtable.specs.Plan.{PlanParts};
+    ghost use Rattle.tables.specs.Plan.{PlanParts};
     ghost use Rattle.cutplan.specs.CompiledAnswers.{IsLending};
 
     ghost Value = { PlanParts };
@@ -123,7 +122,7 @@ impl<'a> CutPlan<'a> {
         ensures narrow { OnOk result (length (cells_of self.now table) ≤ CELL_LIMIT) }
         ensures wide { IfErr result (IsWide (length (cells_of self.now table))) }
     {
-        gaps_of(alloc, self.table_of(table), self.columns_of(table))
+        gaps(alloc, self.table_of(table), self.columns_of(table))
     }
 
     /// Returns the masks of an input column, one for each of its regions, in the order of the
@@ -177,7 +176,7 @@ impl<'a> CutPlan<'a> {
 
     // Returns the answers of the table at the index `place`, which follows the tables with the
     // `earlier` answers. Masks decide nothing if a value is missing, of another kind, or not
-    // allowed; `dtable` then evaluates the table.
+    // allowed; `tables` then evaluates the table.
     fn table_value<'b>(
         &'b self,
         alloc: Global,
@@ -237,23 +236,13 @@ fn value_of_mask<'k>(
     ensures { Gives (by_hit table.now.hit number table.now
         (rules_in (length table.now.rules) mask.now)) result }
 {
-    if let Some(answers) = find_subset_answers(table, kept, mask) {
-        return Ok(Answers::from_slice(answers));
-    }
-    match rule_count_of(mask, table.rules.len()) {
-        RuleCount::None => value_of_rules(alloc, number, table, kept, mask, &[]),
-        RuleCount::One(rule) => value_of_rules(alloc, number, table, kept, mask, &[rule]),
-        RuleCount::More => {
-            let mut rules = SmallVec::<usize, INLINE_RULES>::new(alloc);
-            mask.list_rules(table.rules.len(), &mut rules)?;
-            value_of_rules(alloc, number, table, kept, mask, rules.as_slice())
-        }
-    }
+    let mut rules = SmallVec::<usize, INLINE_RULES>::new(alloc);
+    mask.list_rules(table.rules.len(), &mut rules)?;
+    value_of_rules(alloc, number, table, kept, mask, rules.as_slice())
 }
 
 // Returns the answers of the table for these matching rules, which are those of the mask.
 // Precomputed answers are borrowed.
-#[inline(always)]
 fn value_of_rules<'k>(
     alloc: Global,
     number: usize,

@@ -1,32 +1,24 @@
 //! The gaps of a check: the cells that no rule covers, either as cells or as indices among all
 //! cells.
-ghost use Rattle.std.specs.Prelude.{◌≡◌, ◌+◌, ◌*◌, ◌≤◌, ◌<◌, ◌^◌, ◌++◌, ◌∷◌, IfOk, OnOk, filter, map, min, length, not, [], ◌==◌, if◌then◌else◌};
-ghost use Rattle.std.specs.Bool.{OnTrue, OnFalse};
+ghost use Rattle.std.specs.Prelude.{◌≡◌, ◌+◌, ◌*◌, ◌≤◌, ◌<◌, ◌^◌, ◌++◌, ◌∷◌, All, IfOk, IfErr, OnOk, filter, get_or, map, min, length, not, [], ◌==◌, if◌then◌else◌};
 ghost use Rattle.std.specs.List.{list_any};
 ghost use Rattle.cutplan.specs.Check.{cells, covers};
 ghost use Rattle.cutplan.specs.Masks.{rules_in, HasOnlyFirst};
 ghost use Rattle.cutplan.specs.Places.{ArePlaces, is_gap, places};
 ghost use Rattle.cutplan.specs.CheckSteps.{uncovered};
 ghost use Rattle.cutplan.specs.CompiledColumns.{regions_kept, AreMasked};
-ghost use Rattle.cutplan.specs.Numbered.{cell_limit};
+ghost use Rattle.cutplan.specs.Numbered.{cell_limit, IsWide};
 ghost use Rattle.cutplan.specs.declared.mask.TheConstants.{MASK_CAPACITY};
 
 use crate::compiled_column::CompiledColumn;
+use crate::fault::CheckFault;
 use crate::mask::RuleMask;
 use crate::region::Region;
-use dtable::{Sequence, Table};
 use std::alloc::{AllocError, Global};
+use tables::{Sequence, Table};
 
 /// The greatest number of cells in a check.
 pub const CELL_LIMIT: usize = 65_536;
-
-/// Returns whether the check of these columns has more cells than the limit.
-pub fn is_wide(columns: &[CompiledColumn]) -> bool
-    ensures wide { OnTrue result (cell_limit < length (cells (regions_kept columns.now))) }
-    ensures narrow { OnFalse result (length (cells (regions_kept columns.now)) ≤ cell_limit) }
-{
-    count_cells(columns) > CELL_LIMIT
-}
 
 /// Returns the number of cells of the columns, or the limit plus one if there are more.
 pub fn cell_count(columns: &[Sequence<Region>]) -> usize
@@ -37,16 +29,6 @@ pub fn cell_count(columns: &[Sequence<Region>]) -> usize
         count = capped_product(count, regions.len());
     }
     count
-}
-
-// Returns whether there is no cell, which is so if a column has no region. Such a check must not
-// start a walk, because the walk would visit every tuple of regions of the columns before that
-// column, and their number has no limit.
-fn has_no_cell(columns: &[CompiledColumn]) -> bool
-    ensures none { OnTrue result (length (cells (regions_kept columns.now)) ≡ 0) }
-    ensures some { OnFalse result (0 < length (cells (regions_kept columns.now))) }
-{
-    count_cells(columns) == 0
 }
 
 // Returns the number of cells of compiled columns, or the limit plus one if there are more.
@@ -67,93 +49,70 @@ fn capped_product(count: usize, factor: usize) -> usize
     count.saturating_mul(factor).min(CELL_LIMIT + 1)
 }
 
-/// Returns the cells of the columns that no rule of the table covers, in order. `columns` are the
-/// compiled columns of the table.
+/// Returns the cells of the columns that no rule of the table covers, in order, or `TooWide` if there
+/// are more cells than the limit. `columns` are the compiled columns of the table.
 pub fn gaps(
     alloc: Global,
     table: &Table,
     columns: &[CompiledColumn],
-) -> Result<Vec<Sequence<Region>>, AllocError>
+) -> Result<Vec<Sequence<Region>>, CheckFault>
     requires far { length columns.now < 2 ^ 59 }
     requires few { length table.now.rules ≤ MASK_CAPACITY }
     requires masks { AreMasked table.now 0 columns.now }
-    ensures { IfOk result (λ found. found.items
+    ensures listed { IfOk result (λ found. found.items
         ≡ filter (λ cell. not (list_any (λ r. covers r.cells cell) table.now.rules))
         (cells (regions_kept columns.now))) }
+    ensures narrow { OnOk result (length (cells (regions_kept columns.now)) ≤ cell_limit) }
+    ensures wide { IfErr result (IsWide (length (cells (regions_kept columns.now)))) }
 {
-    if has_no_cell(columns) {
-        return Ok(Vec::new(alloc));
+    match gap_places(alloc, table, columns)? {
+        Some(places) => Ok(cells_at(alloc, columns, places.as_slice())?),
+        None => Err(CheckFault::TooWide),
     }
-    let rules = RuleMask::first_rules(table.rules.len());
-    uncovered_cells(alloc, table, 0, columns, &rules)
 }
 
-// Returns the cells of these columns that none of the remaining `rules` covers, in order. `columns`
-// are the compiled columns of the table from the index `place` on.
-fn uncovered_cells(
+// Returns the cells of the columns at these indices.
+fn cells_at(
     alloc: Global,
-    table: &Table,
-    place: usize,
     columns: &[CompiledColumn],
-    rules: &RuleMask,
+    places: &[u32],
 ) -> Result<Vec<Sequence<Region>>, AllocError>
-    requires far { place + length columns.now < 2 ^ 59 }
-    requires few { length table.now.rules ≤ MASK_CAPACITY }
-    requires masks { AreMasked table.now place columns.now }
-    requires rules { HasOnlyFirst (length table.now.rules) rules.now }
+    requires narrow { length (cells (regions_kept columns.now)) ≤ cell_limit }
+    requires within { All (λ place. place < length (cells (regions_kept columns.now))) places.now }
     ensures { IfOk result (λ found. found.items
-        ≡ filter (uncovered table.now place (rules_in (length table.now.rules) rules.now))
-        (cells (regions_kept columns.now))) }
-{
-    match columns.split_first() {
-        Some((column, more)) => {
-            let masks = column.masks.as_slice();
-            let mut found = Vec::new(alloc);
-            for (at, region) in column.partition.regions.as_slice().iter().enumerate() {
-                let alive = rules.meet(&masks[at]);
-                let following = uncovered_cells(alloc, table, place + 1, more, &alive)?;
-                put_after(alloc, region, following, &mut found)?;
-            }
-            Ok(found)
-        }
-        None => uncovered_end(alloc, table.rules.len(), rules),
-    }
-}
-
-// With no columns left, the empty cell is uncovered if no rule remains.
-fn uncovered_end(
-    alloc: Global,
-    count: usize,
-    rules: &RuleMask,
-) -> Result<Vec<Sequence<Region>>, AllocError>
-    requires few { count ≤ MASK_CAPACITY }
-    requires rules { HasOnlyFirst count rules.now }
-    ensures { IfOk result (λ found. found.items
-        ≡ (if length (rules_in count rules.now) == 0 then [] ∷ [] else [])) }
+        ≡ map (λ place. get_or (cells (regions_kept columns.now)) place []) places.now) }
 {
     let mut found = Vec::new(alloc);
-    if rules.is_none(count) {
-        found.push(Sequence::new(alloc))?;
+    for place in places {
+        let mut cell = Sequence::new(alloc);
+        push_regions(alloc, columns, *place as usize, &mut cell)?;
+        found.push(cell)?;
     }
     Ok(found)
 }
 
-// Appends these cells, each with the region put before it.
-fn put_after(
+// Appends the regions of the cell at the index `place`. The last column changes fastest.
+fn push_regions(
     alloc: Global,
-    region: &Region,
-    following: Vec<Sequence<Region>>,
-    found: &mut Vec<Sequence<Region>>,
+    columns: &[CompiledColumn],
+    place: usize,
+    cell: &mut Sequence<Region>,
 ) -> Result<(), AllocError>
-    ensures { OnOk result (found.new.items
-        ≡ found.old.items ++ map (λ cell. region.now ∷ cell) following.items) }
+    requires narrow { length (cells (regions_kept columns.now)) ≤ cell_limit }
+    requires within { place < length (cells (regions_kept columns.now)) }
+    ensures { OnOk result (cell.new
+        ≡ cell.old ++ get_or (cells (regions_kept columns.now)) place []) }
 {
-    for cell in following {
-        let mut whole = cell;
-        whole.insert(0, region.duplicate(alloc)?)?;
-        found.push(whole)?;
+    match columns.split_first() {
+        Some((column, more)) => {
+            let following = count_cells(more);
+            let regions = column.partition.regions.as_slice();
+            let first = place / following;
+            cell.push(regions[first].duplicate(alloc)?)?;
+            push_regions(alloc, more, place % following, cell)
+        }
+        None => Ok(()),
     }
-    Ok(())
 }
 
 /// Returns the indices of the gaps among the cells of the columns, from 0, in increasing order, or
@@ -168,10 +127,13 @@ pub fn gap_places(
     requires masks { AreMasked table.now 0 columns.now }
     ensures { IfOk result (ArePlaces (cells (regions_kept columns.now)) (is_gap table.now)) }
 {
-    if is_wide(columns) {
+    let count = count_cells(columns);
+    if count > CELL_LIMIT {
         return Ok(None);
     }
-    if has_no_cell(columns) {
+    // There is no cell if a column has no region. A walk would then visit every tuple of regions of
+    // the columns before that column, and their number has no limit.
+    if count == 0 {
         return Ok(Some(Vec::new(alloc)));
     }
     let mut walk = Walk {

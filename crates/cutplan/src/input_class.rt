@@ -5,8 +5,8 @@ ghost use Rattle.cutplan.specs.Matching.{OthersRise};
 ghost use Rattle.cutplan.specs.InputClasses.{AreCompiledNames, IsKeptName, IsPlaceIn, IsInputClass, names_read, with_place};
 
 use crate::partition::Partition;
-use dtable::{Inputs, Plan, Sequence};
 use std::alloc::{AllocError, Global};
+use tables::{Inputs, Plan, Sequence};
 
 /// A compiled name that tables read: its index among the plan's names, and the partition of its
 /// values by all columns that read it.

@@ -4,9 +4,9 @@
 //! mentions the keys.
 
 use crate::region::Region;
-use dtable::Sequence;
 use feel_tests::{Text, Value};
 use std::alloc::{AllocError, Global};
+use tables::Sequence;
 
 /// Returns the keys of a column, one for each of its regions that has a first value. The region of
 /// all other texts has none and is last, so a key has the index of its region.
@@ -44,14 +44,14 @@ pub fn key_of(value: &Value) -> u64 {
     }
 }
 
-/// Returns the distance of the integer from the least one.
-pub fn key_of_integer(integer: i64) -> u64 {
+// Returns the distance of the integer from the least one.
+fn key_of_integer(integer: i64) -> u64 {
     integer.abs_diff(i64::MIN)
 }
 
-/// Returns the first eight bytes of the text as a big-endian number. A shorter text is padded with
-/// zeros at its end.
-pub fn key_of_text(text: &Text) -> u64 {
+// Returns the first eight bytes of the text as a big-endian number. A shorter text is padded with
+// zeros at its end.
+fn key_of_text(text: &Text) -> u64 {
     match text.as_bytes() {
         [
             first,

@@ -19,7 +19,7 @@
 //! overlap of rules that the hit policy does not let match together: `specs/Violations.antt` defines
 //! both, and `violations.rt` decides them.
 //!
-//! Tables and hit policies come from `dtable`, cells and values from `feel_tests`, and the list of
+//! Tables and hit policies come from `tables`, cells and values from `feel_tests`, and the list of
 //! matching rules from `smallvec`.
 //!
 //! Begin with `specs/Regions.antt`, which defines the regions of a column, and `specs/Check.antt`,
@@ -46,10 +46,8 @@ mod overlap;
 mod partition;
 mod region;
 mod regions_from_cuts;
-mod rule_count;
 mod rule_pairs;
 mod sorted_cuts;
-mod subset_answers;
 mod table_check;
 mod violation_law;
 mod violations;

@@ -10,13 +10,10 @@ ghost use Rattle.cutplan.specs.declared.region.Region.TheVariants.{Other};
 ghost use Rattle.cutplan.specs.Regions.{is_in};
 ghost use Rattle.cutplan.specs.Matching.{bytes_of, has_at, AreRisingTexts, OthersRise};
 
-use crate::keys::{key_of_integer, key_of_text};
+use crate::keys::key_of;
 use crate::region::{Region, is_among, is_in, is_less};
 use feel_tests::{Text, Value};
 use std::cmp::Ordering;
-
-/// The greatest number of keys for which a linear search is faster than a binary search.
-const FEW_KEYS: usize = 16;
 
 /// Returns the index of a region that contains the value, if there is one. The keys of the regions
 /// usually lead to it at once. Otherwise a binary search over the regions, which are in increasing
@@ -27,139 +24,27 @@ pub fn place_of(regions: &[Region], keys: &[u64], value: &Value) -> Option<usize
     requires { OthersRise regions.now }
     ensures { IfSome result (λ place. IsTrue (has_at regions.now place value.now)) }
 {
-    match candidate_place(regions, keys, value) {
-        Some(place) => Some(place),
-        None => place_by_search(regions, value),
-    }
-}
-
-// Returns the index that the value's key suggests, if the region there contains the value. The
-// index for a flag is the flag itself.
-fn candidate_place(regions: &[Region], keys: &[u64], value: &Value) -> Option<usize>
-    requires { OthersRise regions.now }
-    ensures { IfSome result (λ place. IsTrue (has_at regions.now place value.now)) }
-{
-    match value {
-        Value::Flag(flag) => place_of_flag(regions, *flag),
-        Value::Text(text) => place_of_text(regions, keys, text),
-        Value::Number(number) => place_up_to(regions, keys, key_of_integer(number.units()), value),
-        Value::Day(day) => {
-            let key = key_of_integer(i64::from(day.epoch_day()));
-            place_up_to(regions, keys, key, value)
-        }
-    }
-}
-
-fn place_of_flag(regions: &[Region], flag: bool) -> Option<usize>
-    ensures { IfSome result (λ place. IsTrue (has_at regions.now place (values.Flag flag))) }
-{
-    let place = usize::from(flag);
-    if is_flag_at(regions, place, flag) {
-        Some(place)
-    } else {
-        None
-    }
-}
-
-fn is_flag_at(regions: &[Region], place: usize, flag: bool) -> bool
-    ensures { IsTrue result → IsTrue (has_at regions.now place (values.Flag flag)) }
-{
-    match regions.get(place) {
-        Some(Region::At(cut)) => is_flag(cut, flag),
-        _ => false,
-    }
-}
-
-fn is_flag(value: &Value, flag: bool) -> bool
-    ensures { result ≡ is_equal (values.Flag flag) value.now }
-{
-    match value {
-        Value::Flag(other) => *other == flag,
-        _ => false,
-    }
-}
-
-fn place_of_text(regions: &[Region], keys: &[u64], text: &Text) -> Option<usize>
-    requires { OthersRise regions.now }
-    ensures { IfSome result (λ place. IsTrue (has_at regions.now place (values.Text text.now))) }
-{
-    let place = candidate(keys, key_of_text(text), regions.len());
-    if has_text_at(regions, place, text) {
-        Some(place)
-    } else {
-        None
-    }
-}
-
-// Returns the index of the key, or the last of `count` indices if there is no such key: a text that
-// is not named lies in the last region.
-fn candidate(keys: &[u64], key: u64, count: usize) -> usize {
-    let place = if keys.len() > FEW_KEYS {
-        keys.binary_search(&key).ok()
-    } else {
-        keys.iter().position(|other| *other == key)
-    };
-    place.unwrap_or(count.saturating_sub(1))
-}
-
-fn has_text_at(regions: &[Region], place: usize, text: &Text) -> bool
-    requires { OthersRise regions.now }
-    ensures { result ≡ has_at regions.now place (values.Text text.now) }
-{
-    match regions.get(place) {
-        Some(region) => has_text(region, text),
-        None => false,
-    }
-}
-
-// Returns whether the text lies in the region. In a region of other texts, a binary search replaces
-// the comparison with every named text.
-fn has_text(region: &Region, text: &Text) -> bool
-    requires { (names : List Value) → region.now ≡ Other names → AreRisingTexts names }
-    ensures { result ≡ is_in region.now (values.Text text.now) }
-{
-    match region {
-        Region::At(cut) => is_text(cut, text),
-        Region::Other(names) => !is_named(names.as_slice(), text),
-        Region::Every => true,
-        Region::Below(_) => false,
-        Region::Between(_, _) => false,
-        Region::Above(_) => false,
-    }
-}
-
-fn is_text(value: &Value, text: &Text) -> bool
-    ensures { result ≡ is_equal (values.Text text.now) value.now }
-{
-    match value {
-        Value::Text(other) => text == other,
-        _ => false,
-    }
-}
-
-// Returns the region of a number or day, which is the last region whose key is not greater than the
-// key of the value, or the only region.
-#[inline(always)]
-fn place_up_to(regions: &[Region], keys: &[u64], key: u64, value: &Value) -> Option<usize>
-    requires { OthersRise regions.now }
-    ensures { IfSome result (λ place. IsTrue (has_at regions.now place value.now)) }
-{
-    let place = last_up_to(keys, key);
+    let place = suggested_place(keys, value, regions.len());
     if has_at(regions, place, value) {
         Some(place)
     } else {
-        None
+        place_by_search(regions, value)
     }
 }
 
-// Returns the index of the last of the sorted keys that is not greater than `key`.
-fn last_up_to(keys: &[u64], key: u64) -> usize {
-    let count = if keys.len() > FEW_KEYS {
-        keys.partition_point(|other| *other <= key)
-    } else {
-        keys.iter().filter(|other| **other <= key).count()
-    };
-    count.saturating_sub(1)
+// Returns the index that the value's key suggests: that of the last key that is not greater, or, for
+// a text with another key, the last of `count` indices, since a text that is not named lies in the
+// last region.
+#[inline(always)]
+fn suggested_place(keys: &[u64], value: &Value, count: usize) -> usize {
+    let key = key_of(value);
+    let place = keys
+        .partition_point(|other| *other <= key)
+        .saturating_sub(1);
+    match value {
+        Value::Text(_) if keys.get(place) != Some(&key) => count.saturating_sub(1),
+        _ => place,
+    }
 }
 
 // Returns the region that a binary search finds, for a value with a key that does not lead to its

@@ -1,5 +1,5 @@
 //! Sets of the rules of a table, as 256 bits in four words.
-ghost use Rattle.std.specs.Prelude.{◌≡◌, ◌<◌, ◌≤◌, ◌==◌, ◌&&◌, ◌||◌, ◌++◌, ◌∷◌, ℕ, [], false, length, nat_lt, slice_index, OnOk};
+ghost use Rattle.std.specs.Prelude.{◌≡◌, ◌<◌, ◌≤◌, ◌==◌, ◌&&◌, ◌||◌, ◌++◌, ℕ, [], false, length, nat_lt, OnOk};
 ghost use Rattle.std.specs.Int.{bit_at};
 ghost use Rattle.cutplan.specs.Matching.{places_set};
 ghost use Rattle.cutplan.specs.Masks.{has_rule, rules_in, HasOnlyFirst, Marks};
@@ -58,7 +58,9 @@ impl RuleMask {
         ensures { Marks (λ place. nat_lt place count) result }
     {
         if count <= 64 {
-            return RuleMask::from_first_word(low_bits(count));
+            return RuleMask {
+                words: [low_bits(count), 0, 0, 0],
+            };
         }
         RuleMask {
             words: [
@@ -68,22 +70,6 @@ impl RuleMask {
                 low_bits(count.saturating_sub(192)),
             ],
         }
-    }
-
-    /// Returns the mask whose first word is this and whose other words are zero.
-    pub(crate) fn from_first_word(word: u64) -> RuleMask
-        ensures { result ≡ word ∷ 0 ∷ 0 ∷ 0 ∷ [] }
-    {
-        RuleMask {
-            words: [word, 0, 0, 0],
-        }
-    }
-
-    /// Returns the first word of the mask, which has the first 64 rules.
-    pub(crate) fn first_word(&self) -> u64
-        ensures { result ≡ slice_index self.now 0 }
-    {
-        self.words[0]
     }
 
     /// Adds the rule at this index if it is wanted.

@@ -6,8 +6,8 @@ ghost use Rattle.cutplan.specs.declared.mask.TheConstants.{MASK_CAPACITY};
 
 use crate::compiled_column::CompiledColumn;
 use crate::mask::{MASK_CAPACITY, RuleMask};
-use dtable::{Answers, Inputs, Table, value_read};
 use feel_tests::Value;
+use tables::{Answers, Inputs, Table, value_read};
 
 /// Returns the rules of the table that match, if each of its inputs reads a value that is of its
 /// column's kind and lies in one of the regions. `columns` are the compiled columns of the table.

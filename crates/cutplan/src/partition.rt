@@ -6,7 +6,7 @@
 ghost use Rattle.std.specs.Prelude.{◌≡◌, IfOk, IfSome, slice_get};
 ghost use Rattle.std.specs.Option.{option_map_or};
 ghost use Rattle.feel_tests.specs.declared.kind.Kind.TheVariants as kinds;
-ghost use Rattle.dtable.specs.Plan.{read_kind_of};
+ghost use Rattle.tables.specs.Plan.{read_kind_of};
 ghost use Rattle.cutplan.specs.CompiledColumns.{IsColumnPartition};
 ghost use Rattle.cutplan.specs.InputClasses.{IsNamePartition};
 ghost use Rattle.cutplan.specs.Matching.{IsPlaceOf, OthersRise};
@@ -17,9 +17,9 @@ use crate::keys::keys_of_regions;
 use crate::lookup::place_of;
 use crate::region::{Region, is_value};
 use crate::regions_from_cuts::{allowed_regions, regions_between};
-use dtable::{Input, Origin, Plan, Sequence, Table};
 use feel_tests::{Kind, Value};
 use std::alloc::{AllocError, Global};
+use tables::{Input, Origin, Plan, Sequence, Table};
 
 /// The regions of a column or of a name, the kind of their values, and the keys for the search of a
 /// region.

@@ -8,10 +8,10 @@ ghost use Rattle.feel_tests.specs.Holds.{is_less};
 ghost use Rattle.feel_tests.specs.declared.value.Value.TheVariants.{Flag};
 ghost use Rattle.cutplan.specs.Regions.{holds_in};
 
-use crate::region::{Region, holds_in, is_in_range, least_like, next};
-use dtable::Sequence;
+use crate::region::{Region, holds_in, is_in_range, is_less, least_like, next};
 use feel_tests::{Cell, Kind, Value, duplicates};
 use std::alloc::{AllocError, Global};
+use tables::Sequence;
 
 /// Returns all regions of the kind for these cuts, including regions that contain no value.
 pub fn regions_between(
@@ -117,8 +117,8 @@ fn has_value(region: &Region) -> bool
     ensures { result ≡ has_value region.now }
 {
     match region {
-        Region::Below(cut) => is_less(&least_like(cut), cut),
-        Region::Between(low, high) => is_less(&next(low), high),
+        Region::Below(cut) => is_below(&least_like(cut), cut),
+        Region::Between(low, high) => is_below(&next(low), high),
         Region::Above(cut) => next(cut).is_some(),
         Region::At(value) => is_in_range(value),
         Region::Other(_) | Region::Every => true,
@@ -126,12 +126,11 @@ fn has_value(region: &Region) -> bool
 }
 
 // Returns whether there is a value and it is a number or day less than `other`.
-fn is_less(one: &Option<Value>, other: &Value) -> bool
+fn is_below(one: &Option<Value>, other: &Value) -> bool
     ensures { result ≡ option_map_or (λ v. is_less v other.now) one.now false }
 {
-    match (one, other) {
-        (Some(Value::Number(one)), Value::Number(other)) => one < other,
-        (Some(Value::Day(one)), Value::Day(other)) => one < other,
-        _ => false,
+    match one {
+        Some(value) => is_less(value, other),
+        None => false,
     }
 }

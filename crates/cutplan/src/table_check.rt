@@ -1,20 +1,18 @@
 //! The check of one table. Only the regions and masks of that table are in memory.
-ghost use Rattle.std.specs.Prelude.{◌≡◌, ◌-◌, ◌<◌, ◌≤◌, ◌^◌, IfOk, IfErr, OnOk, filter, length, not};
-ghost use Rattle.std.specs.List.{list_any};
-ghost use Rattle.cutplan.specs.Check.{cells, covers, meet, overlaps, pairs};
+ghost use Rattle.std.specs.Prelude.{◌≡◌, ◌-◌, ◌≤◌, IfOk, filter, length};
+ghost use Rattle.cutplan.specs.Check.{cells, meet, overlaps, pairs};
 ghost use Rattle.cutplan.specs.CompiledColumns.{regions_kept, AreMasked};
-ghost use Rattle.cutplan.specs.Numbered.{cell_limit as CELL_LIMIT, IsTableNumber, cells_of, overlaps_of, IsWide};
+ghost use Rattle.cutplan.specs.Numbered.{IsTableNumber, cells_of, overlaps_of};
 ghost use Rattle.cutplan.specs.Places.{ArePlaces, is_gap, is_gap_of, regions_of};
 ghost use Rattle.cutplan.specs.Regions.{table_regions};
 ghost use Rattle.cutplan.specs.declared.mask.TheConstants.{MASK_CAPACITY};
 
 use crate::compiled_column::{CompiledColumn, compiled_columns, regions_of_columns};
-use crate::fault::CheckFault;
-use crate::gap::{gap_places, gaps, is_wide};
+use crate::gap::gap_places;
 use crate::overlap::overlaps;
 use crate::region::Region;
-use dtable::{Plan, Sequence, Table};
 use std::alloc::{AllocError, Global};
+use tables::{Plan, Sequence, Table};
 
 /// The result of the check of a table. A cell of the check is a tuple of regions, one for each
 /// column. Cells are ordered column by column from the left, so that the last column changes
@@ -74,26 +72,4 @@ pub fn overlaps_of(
         (pairs (length table.now.rules))) }
 {
     overlaps(alloc, table.rules.len(), columns)
-}
-
-/// Returns the cells of the table's check that no rule covers, or `TooWide` if the check has too
-/// many cells. `columns` are the compiled columns of the table.
-pub fn gaps_of(
-    alloc: Global,
-    table: &Table,
-    columns: &[CompiledColumn],
-) -> Result<Vec<Sequence<Region>>, CheckFault>
-    requires far { length columns.now < 2 ^ 59 }
-    requires few { length table.now.rules ≤ MASK_CAPACITY }
-    requires masks { AreMasked table.now 0 columns.now }
-    ensures listed { IfOk result (λ found. found.items
-        ≡ filter (λ cell. not (list_any (λ r. covers r.cells cell) table.now.rules))
-        (cells (regions_kept columns.now))) }
-    ensures narrow { OnOk result (length (cells (regions_kept columns.now)) ≤ CELL_LIMIT) }
-    ensures wide { IfErr result (IsWide (length (cells (regions_kept columns.now)))) }
-{
-    if is_wide(columns) {
-        return Err(CheckFault::TooWide);
-    }
-    Ok(gaps(alloc, table, columns)?)
 }

@@ -4,7 +4,7 @@ ghost use Rattle.std.specs.List.{list_all};
 ghost use Rattle.cutplan.specs.Numbered.{IsTableNumber};
 ghost use Rattle.cutplan.specs.Violations.{clash, gap_is_error, overlap_is_error, needs_match};
 
-use dtable::{Hit, Output, Plan, Table, rules_agree};
+use tables::{Hit, Output, Plan, Table, rules_agree};
 
 /// Returns whether the gaps of a table are errors: if no rule matches, the table has a `NoRule`
 /// fault. This is so if its hit policy lists no matches and some output has no default. Tables are

@@ -1,37 +1,24 @@
-use Rattle.std.proofs.Common.{◌≡◌, ap, filter, arith, length, not, subst, sym, ◌∙◌}
-use Rattle.std.proofs.lemmas.List.{nil_from_length}
-use Rattle.std.specs.List.{list_any}
-use Rattle.std.specs.Prelude.{nat_lt}
-use Rattle.std.specs.Result.{IfOk}
+use Rattle.std.proofs.Common.{◌<◌, [], Some, ap, get_or, length, map, subst, sym, ◌∙◌}
+use Rattle.std.specs.List.{All}
 use Rattle.cutplan.specs.CompiledColumns.{regions_kept}
-use Rattle.cutplan.specs.Check.{cells, covers}
-use Rattle.cutplan.specs.Masks.{Marks}
-use Rattle.cutplan.specs.CheckSteps.{uncovered}
-use Rattle.cutplan.proofs.Covering.{gaps_are}
-use Rattle.cutplan.proofs.Meeting.{first_are, first_rules}
+use Rattle.cutplan.specs.Check.{cells}
+use Rattle.cutplan.specs.Places.{is_gap, ArePlaces}
+use Rattle.cutplan.proofs.CellPlaces.{cells_at_places, places_within}
 use Rattle.cutplan.proofs.gap.gaps.Goals as goal
 
-pub returns-then-has_no_cell : goal.returns-then-has_no_cell
-returns-then-has_no_cell c =
-    let none = nil_from_length (cells (regions_kept c.args.columns.now)) c.if-has_no_cell.ensures.none in
-    c.new.ensures.items ∙ ap (filter (λ cell. not (list_any (λ r. covers r.cells cell) c.args.table.now.rules))) (sym none)
-
-pub uncovered_cells-requires : goal.uncovered_cells-requires
-uncovered_cells-requires c =
-    let t = c.args.table.now in
-    let marks = subst (λ n. Marks (λ place. nat_lt place n) c.first_rules-rules.result) c.len.ensures c.first_rules-rules.ensures in
+pub cells_at-requires : goal.cells_at-requires
+cells_at-requires c =
+    let all = cells (regions_kept c.args.columns.now) in
+    let test = is_gap c.args.table.now in
+    let found : ArePlaces all test (Some c.in-Some.places) = subst (ArePlaces all test) c.in-Some.is c.in_ok-places.ensures in
     record {
-      far = (let few = c.requires.far in omega (arith, few));
-      few = c.requires.few;
-      masks = c.requires.masks;
-      rules = first_rules (length t.rules) c.first_rules-rules.result marks;
+      narrow = found.0;
+      within = subst (All (λ n. n < length all)) (sym (c.as_slice.ensures.value ∙ found.1)) (places_within test all);
     }
 
-pub returns : goal.returns
-returns c =
-    let t = c.args.table.now in
-    let columns = regions_kept c.args.columns.now in
-    let marks = subst (λ n. Marks (λ place. nat_lt place n) c.first_rules-rules.result) c.len.ensures c.first_rules-rules.ensures in
-    let reported = gaps_are t columns in
-    let rules = first_are (length t.rules) c.first_rules-rules.result c.requires.few marks in
-    subst (λ xs. IfOk c.uncovered_cells.result (λ found. found.items ≡ xs)) (ap (λ places. filter (uncovered t 0 places) (cells columns)) rules ∙ reported) c.uncovered_cells.ensures
+pub returns-in_ok-cells_at-in-Some-clause-listed : goal.returns-in_ok-cells_at-in-Some-clause-listed
+returns-in_ok-cells_at-in-Some-clause-listed c =
+    let all = cells (regions_kept c.args.columns.now) in
+    let test = is_gap c.args.table.now in
+    let found : ArePlaces all test (Some c.in-Some.places) = subst (ArePlaces all test) c.in-Some.is c.in_ok-places.ensures in
+    c.in_ok-cells_at-in-Some.ensures ∙ ap (map (λ n. get_or all n [])) (c.as_slice.ensures.value ∙ found.1) ∙ cells_at_places test all

@@ -1,6 +1,6 @@
 use Rattle.std.proofs.Common.{◌≡◌, length, filter, ap, sym, ◌∙◌, arith}
 use Rattle.std.specs.List.{range_with_len}
-use Rattle.dtable.specs.Inputs.{needs}
+use Rattle.tables.specs.Inputs.{needs}
 use Rattle.cutplan.proofs.ClassNumbers.{none_kept, one_kept}
 use Rattle.cutplan.proofs.input_class.names_read.Goals as goal
 use Rattle.cutplan.proofs.input_class.names_read.Goals.{then-needs+in_ok-push, else-needs}

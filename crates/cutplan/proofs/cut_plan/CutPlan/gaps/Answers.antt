@@ -8,11 +8,11 @@ use Rattle.cutplan.specs.Regions.{table_regions}
 use Rattle.cutplan.proofs.Compiling.{kept_masked, kept_regions}
 use Rattle.cutplan.proofs.cut_plan.CutPlan.gaps.Goals as goal
 
-pub gaps_of-requires-clause-few : goal.gaps_of-requires-clause-few
-gaps_of-requires-clause-few c = c.table_of.ensures.few
+pub gaps-requires-clause-few : goal.gaps-requires-clause-few
+gaps-requires-clause-few c = c.table_of.ensures.few
 
-pub gaps_of-requires-clause-masks : goal.gaps_of-requires-clause-masks
-gaps_of-requires-clause-masks c =
+pub gaps-requires-clause-masks : goal.gaps-requires-clause-masks
+gaps-requires-clause-masks c =
     let t = c.table_of.result.now in
     kept_masked c.args.self.now t c.columns_of.result.now (c.columns_of.ensures t c.table_of.ensures.table)
 
@@ -22,8 +22,8 @@ returns-clause-listed c =
     let t = c.table_of.result.now in
     let at = c.table_of.ensures.table in
     let same = kept_regions p t c.columns_of.result.now (c.columns_of.ensures t at) in
-    subst (λ found. IfOk c.gaps_of.result (λ x. x.items ≡ option_map_or (gaps p) found [])) (sym at)
-    (subst (λ rs. IfOk c.gaps_of.result (λ x. x.items ≡ filter (λ cell. not (list_any (λ r. covers r.cells cell) t.rules)) (cells rs))) same c.gaps_of.ensures.listed)
+    subst (λ found. IfOk c.gaps.result (λ x. x.items ≡ option_map_or (gaps p) found [])) (sym at)
+    (subst (λ rs. IfOk c.gaps.result (λ x. x.items ≡ filter (λ cell. not (list_any (λ r. covers r.cells cell) t.rules)) (cells rs))) same c.gaps.ensures.listed)
 
 pub returns-clause-narrow : goal.returns-clause-narrow
 returns-clause-narrow c =
@@ -31,8 +31,8 @@ returns-clause-narrow c =
     let t = c.table_of.result.now in
     let at = c.table_of.ensures.table in
     let same = kept_regions p t c.columns_of.result.now (c.columns_of.ensures t at) in
-    subst (λ found. OnOk c.gaps_of.result (length (option_map_or (λ x. cells (table_regions p x)) found []) ≤ cell_limit)) (sym at)
-    (subst (λ rs. OnOk c.gaps_of.result (length (cells rs) ≤ cell_limit)) same c.gaps_of.ensures.narrow)
+    subst (λ found. OnOk c.gaps.result (length (option_map_or (λ x. cells (table_regions p x)) found []) ≤ cell_limit)) (sym at)
+    (subst (λ rs. OnOk c.gaps.result (length (cells rs) ≤ cell_limit)) same c.gaps.ensures.narrow)
 
 pub returns-clause-wide : goal.returns-clause-wide
 returns-clause-wide c =
@@ -40,5 +40,5 @@ returns-clause-wide c =
     let t = c.table_of.result.now in
     let at = c.table_of.ensures.table in
     let same = kept_regions p t c.columns_of.result.now (c.columns_of.ensures t at) in
-    subst (λ found. IfErr c.gaps_of.result (IsWide (length (option_map_or (λ x. cells (table_regions p x)) found [])))) (sym at)
-    (subst (λ rs. IfErr c.gaps_of.result (IsWide (length (cells rs)))) same c.gaps_of.ensures.wide)
+    subst (λ found. IfErr c.gaps.result (IsWide (length (option_map_or (λ x. cells (table_regions p x)) found [])))) (sym at)
+    (subst (λ rs. IfErr c.gaps.result (IsWide (length (cells rs)))) same c.gaps.ensures.wide)

@@ -1,7 +1,7 @@
 use Rattle.std.proofs.lemmas.Grind.{common_steps, elements}
 use Rattle.std.proofs.Common.{[], arith}
 use Rattle.std.proofs.lemmas.Result.{err_from_is_err_and}
-use Rattle.dtable.specs.Environment.{answers_of}
+use Rattle.tables.specs.Environment.{answers_of}
 use Rattle.cutplan.proofs.Valuing.{one_more_answers, fault_of_table}
 use Rattle.cutplan.proofs.cut_plan.CutPlan.push_answers.Goals as goal
 

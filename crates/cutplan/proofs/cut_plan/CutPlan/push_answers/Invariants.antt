@@ -1,5 +1,5 @@
 use Rattle.std.proofs.Common.{◌≡◌, [], drop}
-use Rattle.dtable.specs.Environment.{answers_of}
+use Rattle.tables.specs.Environment.{answers_of}
 use Rattle.cutplan.proofs.cut_plan.CutPlan.push_answers.Given as goal
 
 abbrev pub invariant-loop-place : goal.invariant-loop-place

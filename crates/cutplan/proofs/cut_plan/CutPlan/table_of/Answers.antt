@@ -1,6 +1,6 @@
 use Rattle.std.proofs.Common.{◌-◌, ◌≤◌, get_or, length, ap, ◌∙◌, subst, arith}
 use Rattle.std.specs.List.{All}
-use Rattle.dtable.specs.Plan.{PlanParts}
+use Rattle.tables.specs.Plan.{PlanParts}
 use Rattle.cutplan.proofs.ByMasks.{got_at}
 use Rattle.cutplan.proofs.Compiling.{rule_count_of}
 use Rattle.cutplan.proofs.cut_plan.CutPlan.table_of.Goals as goal

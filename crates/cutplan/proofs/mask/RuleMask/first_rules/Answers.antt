@@ -1,12 +1,10 @@
-use Rattle.std.proofs.Common.{subst, sym}
-use Rattle.std.specs.Prelude.{nat_lt}
-use Rattle.cutplan.specs.Masks.{Marks}
+use Rattle.std.proofs.Common.{subst}
 use Rattle.cutplan.proofs.FirstRules.{IsLow, first_marked, first_word}
 use Rattle.cutplan.proofs.mask.RuleMask.first_rules.Goals as goal
 
 pub returns-then-count-le64 : goal.returns-then-count-le64
 returns-then-count-le64 c =
-    subst (Marks (λ place. nat_lt place c.args.count)) (sym c.from_first_word.ensures) (first_word c.args.count c.low_bits.result c.if-count-le64.true c.low_bits.ensures)
+    first_word c.args.count c.low_bits.result c.if-count-le64.true c.low_bits.ensures
 
 pub returns : goal.returns
 returns c =
