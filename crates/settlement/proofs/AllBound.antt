@@ -1,7 +1,7 @@
 -- A claim that fits a plan gives each name of the plan a value of its kind.
 use Rattle.std.proofs.Common.{◌≡◌, ℕ, ◌<◌, ◌≤◌, zero, suc, Bool, true, false, inl, inr, List, [], ◌∷◌, ◌++◌, map, length, slice_get, Option, Some, None, is_some, ◌⊎◌, refl, sym, ap, subst, ◌∙◌, arith}
 use Rattle.std.specs.List.{range_with_len, All}
-use Rattle.std.specs.Option.{option_and_then, option_map_or}
+use Rattle.std.specs.Option.{option_and_then}
 use Rattle.std.proofs.lemmas.Bool.{or_left}
 use Rattle.std.proofs.lemmas.List.{length-map, map-append}
 use Rattle.std.proofs.lemmas.List.Elements.{All-same, All-filter}
@@ -12,19 +12,19 @@ use Rattle.feel_tests.specs.declared.kind.Kind.TheVariants.{Number, Text, Day}
 use Rattle.feel_tests.specs.declared.value.Value.{Value}
 use Rattle.feel_tests.specs.declared.value.Value.TheVariants as values
 use Rattle.feel_tests.specs.Value.{kind_of}
-use Rattle.dtable.specs.declared.table.InputData.{InputData}
-use Rattle.dtable.specs.declared.inputs.Slot.{Slot}
-use Rattle.dtable.specs.Inputs.{value_at, needs, IsReady}
-use Rattle.dtable.specs.Names.{accumulator_names, names_of}
-use Rattle.dtable.specs.Plan.{PlanParts, IsPlan, keeps_families}
-use Rattle.dtable.proofs.NeededNames.{within_names}
+use Rattle.tables.specs.declared.table.InputData.{InputData}
+use Rattle.tables.specs.declared.inputs.Slot.{Slot}
+use Rattle.tables.specs.Inputs.{value_at, needs, IsReady}
+use Rattle.tables.specs.Names.{accumulator_names, names_of}
+use Rattle.tables.specs.Plan.{PlanParts, IsPlan, keeps_families}
+use Rattle.tables.proofs.NeededNames.{within_names}
 use Rattle.settlement.specs.declared.acc.Acc.{Acc}
 use Rattle.settlement.specs.declared.claim.Claim.{Claim}
 use Rattle.settlement.specs.declared.workspace.Workspace.{Workspace}
 use Rattle.settlement.specs.Claim.{IsClaimOf}
 use Rattle.settlement.proofs.Binding.{at_each}
 use Rattle.settlement.specs.Bindings.{accumulator_values, after_family, values_from_member, values_given, slot_kinds, slot_of, given_by}
-use Rattle.settlement.specs.Reads.{is_read, places_read, roles_read, HasItsValue, IsLaidOut, Serves}
+use Rattle.settlement.specs.Reads.{any_role_reads, is_read, places_read, HasItsValue, IsLaidOut, Serves}
 use Rattle.settlement.specs.Workspace.{IsWorkspaceOf}
 
 -- the kinds of the accumulators' names are those of their values, with and without a family
@@ -123,7 +123,7 @@ pub ready_where_served :
     (plan : PlanParts) (claim : Claim) (acc : Acc) (given : List Slot) → IsPlan plan → IsClaimOf plan claim → Serves plan claim acc given
     → IsReady plan.tables given
 ready_where_served plan claim acc given sound is serves place needed =
-    let same = serves place (or_left (needs plan.tables place) (option_map_or (roles_read place) plan.roles false) needed) in
+    let same = serves place (or_left (needs plan.tables place) (any_role_reads (Some place) plan.roles) needed) in
     subst (λ (value : Option Value). is_some value ≡ true) (bound_value (values_given claim acc) place ∙ sym same)
     (ready_for_claim plan claim acc sound is place needed)
 

@@ -12,10 +12,10 @@ use Rattle.feel_tests.specs.declared.kind.Kind.{Kind}
 use Rattle.feel_tests.specs.declared.value.Value.{Value}
 use Rattle.feel_tests.specs.declared.value.Value.TheVariants.{Text}
 use Rattle.feel_tests.specs.Value.{kind_of}
-use Rattle.dtable.specs.declared.inputs.Slot.{Slot}
-use Rattle.dtable.specs.declared.table.InputData.{InputData}
-use Rattle.dtable.specs.Inputs.{empty_slots, fill_slot, value_at, Takes}
-use Rattle.dtable.specs.Plan.{PlanParts, IsPlan}
+use Rattle.tables.specs.declared.inputs.Slot.{Slot}
+use Rattle.tables.specs.declared.table.InputData.{InputData}
+use Rattle.tables.specs.Inputs.{empty_slots, fill_slot, value_at, Takes}
+use Rattle.tables.specs.Plan.{PlanParts, IsPlan}
 use Rattle.settlement.specs.declared.acc.Acc.{Acc}
 use Rattle.settlement.specs.declared.claim.Claim.{Claim}
 use Rattle.settlement.specs.Bindings.{accumulator_values, values_from_member, slot_of, slot_kinds}

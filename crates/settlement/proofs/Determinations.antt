@@ -1,108 +1,59 @@
--- The determination of a claim, the outcome from it, and the claims that share it.
-use Rattle.std.proofs.Common.{◌≡◌, ◌⊎◌, inl, inr, ℕ, ℤ, Bool, true, false, if◌then◌else◌, List, Option, Some, None, Result, Ok, Err, refl, ap, sym, ◌∙◌, subst}
-use Rattle.std.proofs.lemmas.Bool.{both_ways, or_parts}
-use Rattle.faults.specs.declared.fault.Fault.{Fault}
-use Rattle.dtable.specs.declared.inputs.Slot.{Slot}
-use Rattle.dtable.specs.declared.roles.FamilyRoles.{FamilyRoles}
-use Rattle.dtable.specs.declared.roles.Roles.{Roles}
-use Rattle.dtable.specs.declared.roles.Source.{Source}
-use Rattle.dtable.specs.declared.roles.Source.TheVariants.{Literal, Input as Place, Output}
-use Rattle.dtable.specs.Environment.{Environment, env}
-use Rattle.dtable.specs.Plan.{PlanParts}
-use Rattle.faults.specs.declared.reason.Reason.{Reason}
-use Rattle.faults.specs.declared.role.Role.{Role}
-use Rattle.faults.specs.Reason.{reason_of}
-use Rattle.settlement.specs.declared.acc.Acc.{Acc}
+-- The claims that share a determination.
+use Rattle.std.proofs.Common.{◌≡◌, ◌⊎◌, inl, inr, ◌||◌, ℕ, Bool, true, false, List, Option, Some, None, refl, ap, sym, ◌∙◌, subst}
+use Rattle.std.proofs.lemmas.Bool.{both_ways, or_left, or_right}
+use Rattle.tables.specs.declared.inputs.Slot.{Slot}
+use Rattle.tables.specs.declared.roles.FamilyRoles.{FamilyRoles}
+use Rattle.tables.specs.declared.roles.Roles.{Roles}
+use Rattle.tables.specs.declared.roles.Source.{Source}
+use Rattle.tables.specs.declared.roles.Source.TheVariants.{Literal, Input as Place, Output}
+use Rattle.tables.specs.Environment.{env}
+use Rattle.tables.specs.Plan.{PlanParts}
 use Rattle.settlement.specs.declared.determination.Determination.{Determination}
-use Rattle.settlement.specs.declared.determination.Determination.TheVariants.{Denied}
 use Rattle.settlement.specs.declared.determination_cache.CacheEntry.{CacheEntry}
-use Rattle.settlement.specs.declared.cost_sharing.CostSharing.{CostSharing}
-use Rattle.settlement.specs.Determinations.{IsAlike, IsShared, IsTrueOf, IsCached, are_answered, determination_of, by_answers, by_found, by_reason, is_given, limits_given, outcome_by, roles_given}
-use Rattle.settlement.specs.Roles.{value_of, is_true_flag, limits, terms, remarks_of}
-use Rattle.settlement.specs.Settlement.{by_fault, by_tables, by_terms, denied_outcome}
-use Rattle.settlement.proofs.ReadAlike.{SameRoles, terms_alike}
+use Rattle.settlement.specs.Determinations.{IsAlike, IsShared, IsTrueOf, IsCached}
+use Rattle.settlement.specs.Reads.{source_reads, limits_read, roles_read, any_role_reads}
+use Rattle.settlement.specs.Settlement.{by_tables, determination_of}
+use Rattle.settlement.proofs.ReadAlike.{tables_alike}
 
-found_outcome : (billed : ℤ) (acc : Acc) (remarks : List (List ℕ)) (found : Result CostSharing Role) → outcome_by billed acc (by_found remarks found) ≡ by_terms billed acc remarks found
-found_outcome billed acc remarks (Ok found) = refl
-found_outcome billed acc remarks (Err role) = refl
+either_passes : (a b c d : Bool) → (a ≡ true → c ≡ true) → (b ≡ true → d ≡ true) → (a || b) ≡ true → (c || d) ≡ true
+either_passes true b c d first second passes = or_left c d (first refl)
+either_passes false b c d first second passes = or_right c d (second passes)
 
-cover_outcome : (billed : ℤ) (acc : Acc) (remarks : List (List ℕ)) (found : Result CostSharing Role) (covered : Bool)
-    → outcome_by billed acc (if covered then by_found remarks found else Denied remarks) ≡ (if covered then by_terms billed acc remarks found else denied_outcome remarks)
-cover_outcome billed acc remarks found true = found_outcome billed acc remarks found
-cover_outcome billed acc remarks found false = refl
+source_given : (place : ℕ) (source : Source) → source_reads (Some place) source ≡ true → source_reads None source ≡ true
+source_given place (Literal value) reads = reads
+source_given place (Place name) reads = refl
+source_given place (Output name) reads = reads
 
-reason_outcome : (billed : ℤ) (acc : Acc) (reason : Option Reason) → outcome_by billed acc (by_reason reason) ≡ by_fault reason
-reason_outcome billed acc None = refl
-reason_outcome billed acc (Some reason) = refl
+limits_given : (place : ℕ) (limits : Option FamilyRoles) → limits_read (Some place) limits ≡ true → limits_read None limits ≡ true
+limits_given place None reads = reads
+limits_given place (Some limits) reads =
+    either_passes (source_reads (Some place) limits.deductible) (source_reads (Some place) limits.oop_max) (source_reads None limits.deductible) (source_reads None limits.oop_max)
+    (source_given place limits.deductible) (source_given place limits.oop_max) reads
 
--- the outcome from the determination is the outcome from the answers of the tables
-pub outcome_by_benefit : (roles : Option Roles) (billed : ℤ) (acc : Acc) (given : List Slot) (answers : Result Environment Fault)
-    → outcome_by billed acc (determination_of roles given answers) ≡ by_tables roles billed acc given answers
-outcome_by_benefit None billed acc given answers = refl
-outcome_by_benefit (Some roles) billed acc given (Err fault) = reason_outcome billed acc (reason_of fault)
-outcome_by_benefit (Some roles) billed acc given (Ok answers) =
-    cover_outcome billed acc (remarks_of answers roles.remarks) (terms given answers roles) (is_true_flag (value_of given answers roles.cover))
+roles_given : (place : ℕ) (roles : Roles) → roles_read (Some place) roles ≡ true → roles_read None roles ≡ true
+roles_given place roles =
+    either_passes _ _ _ _ (source_given place roles.cover) (either_passes _ _ _ _ (source_given place roles.fee)
+    (either_passes _ _ _ _ (source_given place roles.deductible) (either_passes _ _ _ _ (source_given place roles.copay)
+    (either_passes _ _ _ _ (source_given place roles.rate) (either_passes _ _ _ _ (source_given place roles.oop_max) (limits_given place roles.family))))))
 
-source_same : (given other : List Slot) (answers : Environment) (source : Source) → is_given source ≡ false → value_of given answers source ≡ value_of other answers source
-source_same given other answers (Literal value) none = refl
-source_same given other answers (Place p) none = absurd (both_ways true none refl)
-source_same given other answers (Output name) none = refl
-
-limits_same : (given other : List Slot) (answers : Environment) (family : Option FamilyRoles) → limits_given family ≡ false → limits given answers family ≡ limits other answers family
-limits_same given other answers None none = refl
-limits_same given other answers (Some roles) none =
-    let parts = or_parts (is_given roles.deductible) (is_given roles.oop_max) none in
-    let deductible = source_same given other answers roles.deductible parts.0 in
-    let oop_max = source_same given other answers roles.oop_max parts.1 in
-    rw (deductible, oop_max) refl
-
--- roles without the value of an input are the same for all inputs
-roles_same : (given other : List Slot) (answers : Environment) (roles : Roles) → roles_given roles ≡ false → SameRoles given other answers roles
-roles_same given other answers roles none =
-    let cover = or_parts (is_given roles.cover) _ none in
-    let fee = or_parts (is_given roles.fee) _ cover.1 in
-    let deductible = or_parts (is_given roles.deductible) _ fee.1 in
-    let copay = or_parts (is_given roles.copay) _ deductible.1 in
-    let rate = or_parts (is_given roles.rate) _ copay.1 in
-    let last = or_parts (is_given roles.oop_max) (limits_given roles.family) rate.1 in
-    record {
-      cover = source_same given other answers roles.cover cover.0;
-      fee = source_same given other answers roles.fee fee.0;
-      deductible = source_same given other answers roles.deductible deductible.0;
-      copay = source_same given other answers roles.copay copay.0;
-      rate = source_same given other answers roles.rate rate.0;
-      oop_max = source_same given other answers roles.oop_max last.0;
-      family = limits_same given other answers roles.family last.1;
-    }
-
-answers_same : (given other : List Slot) (answers : Environment) (roles : Roles) → SameRoles given other answers roles → by_answers roles given answers ≡ by_answers roles other answers
-answers_same given other answers roles same =
-    let remarks = remarks_of answers roles.remarks in
-    ap (λ (cover : Option _). if is_true_flag cover then by_found remarks (terms given answers roles) else Denied remarks) same.cover
-    ∙ ap (λ (found : Result CostSharing Role). if is_true_flag (value_of other answers roles.cover) then by_found remarks found else Denied remarks)
-    (terms_alike given other answers roles same)
-
-none_given : (b : Bool) → (if b then false else true) ≡ true → b ≡ false
-none_given true e = sym e
-none_given false e = refl
-
-benefit_same : (roles : Option Roles) (given other : List Slot) (answers : Result Environment Fault) → are_answered roles ≡ true → determination_of roles given answers ≡ determination_of roles other answers
-benefit_same None given other answers answered = refl
-benefit_same (Some roles) given other (Err fault) answered = refl
-benefit_same (Some roles) given other (Ok answers) answered = answers_same given other answers roles (roles_same given other answers roles (none_given (roles_given roles) answered))
+-- a plan that reads a name at some place for a role reads some name for a role
+any_given : (place : ℕ) (roles : Option Roles) → any_role_reads (Some place) roles ≡ true → any_role_reads None roles ≡ true
+any_given place None reads = reads
+any_given place (Some roles) reads = roles_given place roles reads
 
 -- if the tables have the same answers and no role has the value of an input, the determination is
 -- the same
-shared_where_alike : (in_class : List Slot → ℕ → Type 0) (plan : PlanParts) (given : List Slot) (input_class : ℕ) → are_answered plan.roles ≡ true → IsAlike in_class plan given input_class → IsShared in_class plan given input_class
-shared_where_alike in_class plan given input_class answered alike other inside =
-    benefit_same plan.roles given other (env plan given) answered ∙ ap (determination_of plan.roles other) (sym (alike other inside))
+shared_where_alike : (in_class : List Slot → ℕ → Type 0) (plan : PlanParts) (given : List Slot) (input_class : ℕ) → any_role_reads None plan.roles ≡ false → IsAlike in_class plan given input_class → IsShared in_class plan given input_class
+shared_where_alike in_class plan given input_class none alike other inside =
+    tables_alike plan.roles given other (env plan given) (λ place reads. absurd (both_ways (any_role_reads None plan.roles) none (any_given place plan.roles reads)))
+    ∙ ap (by_tables plan.roles other) (sym (alike other inside))
 
 -- the cache stays correct with one more correct entry
 pub kept_true : (in_class : List Slot → ℕ → Type 0) (plan : PlanParts) (old new : List (Option CacheEntry)) (given : List Slot) (input_class : ℕ) (determination : Determination) → IsTrueOf in_class plan old
-    → determination ≡ determination_of plan.roles given (env plan given) → are_answered plan.roles ≡ true → IsAlike in_class plan given input_class
+    → determination ≡ determination_of plan given → any_role_reads None plan.roles ≡ false → IsAlike in_class plan given input_class
     → ((other : ℕ) (found : Determination) → IsCached new other found → IsCached old other found ⊎ ((other ≡ input_class) × (found ≡ determination))) → IsTrueOf in_class plan new
-kept_true in_class plan old new given input_class determination is_true made answered alike kept other found entry here inside =
-    let shared = shared_where_alike in_class plan given input_class answered alike in
+kept_true in_class plan old new given input_class determination is_true made none alike kept other found entry here inside =
+    let shared = shared_where_alike in_class plan given input_class none alike in
     elim (kept other found entry) [
       | inl before ↦ is_true other found before here inside
       | inr now ↦ now.1 ∙ made ∙ shared here (subst (λ z. in_class here z) now.0 inside)

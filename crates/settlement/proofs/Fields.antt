@@ -8,9 +8,9 @@ use Rattle.feel_tests.specs.declared.kind.Kind.{Kind}
 use Rattle.feel_tests.specs.declared.kind.Kind.TheVariants.{Number, Text, Flag, Day}
 use Rattle.feel_tests.specs.declared.value.Value.{Value}
 use Rattle.feel_tests.specs.Value.{kind_of}
-use Rattle.dtable.specs.declared.table.InputData.{InputData}
-use Rattle.dtable.specs.Names.{accumulator_names, claim_names, names_of}
-use Rattle.dtable.specs.Plan.{PlanParts, keeps_families, same_kind, has_kind}
+use Rattle.tables.specs.declared.table.InputData.{InputData}
+use Rattle.tables.specs.Names.{accumulator_names, claim_names, names_of}
+use Rattle.tables.specs.Plan.{PlanParts, keeps_families, same_kind, has_kind}
 use Rattle.settlement.specs.declared.claim.Claim.{Claim}
 use Rattle.settlement.specs.Claim.{IsClaimOf}
 use Rattle.settlement.specs.Fields.{have_kinds}

@@ -25,6 +25,12 @@ within_both one other whole a b = omega (arith, ints)
 pub within_smaller : (amount smaller one other : ℤ) → amount ≤ℤ smaller → smaller ≡ int_min one other → amount ≤ℤ one
 within_smaller amount smaller one other within is = omega (arith, ints, clamps)
 
+-- the parts that are taken one after another from a whole are at most the whole
+pub parts_within :
+    (whole first second third after_first after_second : ℤ) → after_first ≡ whole -ℤ first → after_second ≡ after_first -ℤ second → third ≤ℤ after_second
+    → (first +ℤ second +ℤ third) ≤ℤ whole
+parts_within whole first second third after_first after_second a b within = omega (arith, ints)
+
 -- rounding a number that is at most a whole number gives at most that whole number
 half_even_within : (n c : ℕ) → n ≤ 1000000 * c → half_even n ≤ c
 half_even_within n c below = grind (arith, nat_tests)

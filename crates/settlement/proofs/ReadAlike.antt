@@ -1,36 +1,37 @@
 -- A plan has the same result for two lists of slots that agree at the places that the plan reads.
-use Rattle.std.proofs.Common.{◌≡◌, ◌||◌, ◌&&◌, ℕ, ◌+◌, nat_lt, ℤ, Bool, true, false, not, cond, if◌then◌else◌, List, [], ◌∷◌, ◌++◌, length, Option, Some, None, slice_get, Result, Ok, Err, refl, ap, sym, ◌∙◌, arith}
+use Rattle.std.proofs.Common.{◌≡◌, ◌||◌, ◌&&◌, ℕ, ◌+◌, nat_lt, Bool, true, false, not, cond, if◌then◌else◌, List, [], ◌∷◌, ◌++◌, length, Option, Some, None, slice_get, Result, Ok, Err, refl, ap, sym, ◌∙◌, arith}
 use Rattle.std.specs.List.{list_any, position_or_len, range_with_len}
 use Rattle.std.specs.Option.{option_map_or}
 use Rattle.std.proofs.lemmas.Bool.{eq-eqb, or_left, or_right}
 use Rattle.std.proofs.lemmas.List.Elements.{filter_agree}
 use Rattle.feel_tests.specs.declared.cell.Cell.{Cell}
 use Rattle.feel_tests.specs.declared.value.Value.{Value}
-use Rattle.dtable.specs.declared.environment.Answer.{Answer}
+use Rattle.tables.specs.declared.environment.Answer.{Answer}
 use Rattle.faults.specs.declared.fault.Fault.{Fault}
-use Rattle.dtable.specs.declared.inputs.Slot.{Slot}
-use Rattle.dtable.specs.declared.roles.FamilyRoles.{FamilyRoles}
-use Rattle.dtable.specs.declared.roles.Roles.{Roles}
-use Rattle.dtable.specs.declared.roles.Source.{Source}
-use Rattle.dtable.specs.declared.roles.Source.TheVariants.{Literal, Input as Place, Output}
-use Rattle.dtable.specs.declared.table.Input.{Input}
-use Rattle.dtable.specs.declared.table.Origin.{Origin}
-use Rattle.dtable.specs.declared.table.Origin.TheVariants.{Given, Earlier}
-use Rattle.dtable.specs.declared.table.Rule.{Rule}
-use Rattle.dtable.specs.declared.table.Table.{Table}
-use Rattle.dtable.specs.Environment.{Environment, answers_of, and_then, env, table_value, inside, number_after}
-use Rattle.dtable.specs.HitPolicy.{TableValue, by_hit}
-use Rattle.dtable.specs.Inputs.{value_at, reads, needs}
-use Rattle.dtable.specs.Matching.{value_read, holds_of, cells_hold, rule_matches, matching, is_outside, first_outside}
-use Rattle.dtable.specs.Plan.{PlanParts}
+use Rattle.tables.specs.declared.inputs.Slot.{Slot}
+use Rattle.tables.specs.declared.roles.FamilyRoles.{FamilyRoles}
+use Rattle.tables.specs.declared.roles.Roles.{Roles}
+use Rattle.tables.specs.declared.roles.Source.{Source}
+use Rattle.tables.specs.declared.roles.Source.TheVariants.{Literal, Input as Place, Output}
+use Rattle.tables.specs.declared.table.Input.{Input}
+use Rattle.tables.specs.declared.table.Origin.{Origin}
+use Rattle.tables.specs.declared.table.Origin.TheVariants.{Given, Earlier}
+use Rattle.tables.specs.declared.table.Rule.{Rule}
+use Rattle.tables.specs.declared.table.Table.{Table}
+use Rattle.tables.specs.Environment.{Environment, answers_of, and_then, env, table_value, inside, number_after}
+use Rattle.tables.specs.HitPolicy.{TableValue, by_hit}
+use Rattle.tables.specs.Inputs.{value_at, reads, needs}
+use Rattle.tables.specs.Matching.{value_read, holds_of, cells_hold, rule_matches, matching, is_outside, first_outside}
+use Rattle.tables.specs.Plan.{PlanParts}
 use Rattle.settlement.specs.declared.acc.Acc.{Acc}
 use Rattle.settlement.specs.declared.claim.Claim.{Claim}
+use Rattle.settlement.specs.declared.determination.Determination.TheVariants.{Denied}
 use Rattle.faults.specs.declared.role.Role.{Role}
 use Rattle.settlement.specs.declared.cost_sharing.CostSharing.{CostSharing}
 use Rattle.settlement.specs.Bindings.{given_by, values_given}
-use Rattle.settlement.specs.Reads.{source_reads, limits_read, roles_read, is_read, Serves}
+use Rattle.settlement.specs.Reads.{source_reads, limits_read, roles_read, any_role_reads, is_read, Serves}
 use Rattle.settlement.specs.Roles.{value_of, is_true_flag, limits, terms, remarks_of}
-use Rattle.settlement.specs.Settlement.{by_roles, by_tables, by_terms, denied_outcome, outcome}
+use Rattle.settlement.specs.Settlement.{by_roles, by_tables, by_terms, determination_of, outcome, outcome_from}
 use Rattle.settlement.proofs.AllBound.{bound_value}
 
 -- two lists of slots have the same value at each place that passes the test
@@ -126,24 +127,24 @@ env_alike plan given other alike =
     cc
 
 source_alike :
-    (given other : List Slot) (answers : Environment) (source : Source) → AlikeWhere (λ place. source_reads place source) given other
+    (given other : List Slot) (answers : Environment) (source : Source) → AlikeWhere (λ place. source_reads (Some place) source) given other
     → value_of given answers source ≡ value_of other answers source
 source_alike given other answers (Literal value) alike = refl
 source_alike given other answers (Place p) alike = alike p (eq-eqb p p refl)
 source_alike given other answers (Output name) alike = refl
 
 limits_alike :
-    (given other : List Slot) (answers : Environment) (family : Option FamilyRoles) → AlikeWhere (λ place. limits_read place family) given other
+    (given other : List Slot) (answers : Environment) (family : Option FamilyRoles) → AlikeWhere (λ place. limits_read (Some place) family) given other
     → limits given answers family ≡ limits other answers family
 limits_alike given other answers None alike = refl
 limits_alike given other answers (Some roles) alike =
     let deductible =
-    source_alike given other answers roles.deductible (λ place e. alike place (or_left (source_reads place roles.deductible) (source_reads place roles.oop_max) e)) in
-    let oop_max = source_alike given other answers roles.oop_max (λ place e. alike place (or_right (source_reads place roles.deductible) (source_reads place roles.oop_max) e)) in
+    source_alike given other answers roles.deductible (λ place e. alike place (or_left (source_reads (Some place) roles.deductible) (source_reads (Some place) roles.oop_max) e)) in
+    let oop_max = source_alike given other answers roles.oop_max (λ place e. alike place (or_right (source_reads (Some place) roles.deductible) (source_reads (Some place) roles.oop_max) e)) in
     rw (deductible, oop_max) refl
 
 -- each role has the same value for both lists of slots
-pub record SameRoles (given other : List Slot) (answers : Environment) (roles : Roles) : Type 0 where
+record SameRoles (given other : List Slot) (answers : Environment) (roles : Roles) : Type 0 where
   pub cover : value_of given answers roles.cover ≡ value_of other answers roles.cover
   pub fee : value_of given answers roles.fee ≡ value_of other answers roles.fee
   pub deductible : value_of given answers roles.deductible ≡ value_of other answers roles.deductible
@@ -159,7 +160,7 @@ last_passes a b c d e f g passes =
     (or_right d (e || (f || g)) (or_right e (f || g) (or_right f g passes)))))
 
 same_roles :
-    (given other : List Slot) (answers : Environment) (roles : Roles) → AlikeWhere (λ place. roles_read place roles) given other
+    (given other : List Slot) (answers : Environment) (roles : Roles) → AlikeWhere (λ place. roles_read (Some place) roles) given other
     → SameRoles given other answers roles
 same_roles given other answers roles alike = record {
   cover = source_alike given other answers roles.cover (λ place e. alike place (grind (arith, e)));
@@ -169,42 +170,41 @@ same_roles given other answers roles alike = record {
   rate = source_alike given other answers roles.rate (λ place e. alike place (grind (arith, e)));
   oop_max = source_alike given other answers roles.oop_max (λ place e. alike place (grind (arith, e)));
   family = limits_alike given other answers roles.family (λ place e. alike place (
-      last_passes (source_reads place roles.cover) (source_reads place roles.fee) (source_reads place roles.deductible) (source_reads place roles.copay)
-      (source_reads place roles.rate) (source_reads place roles.oop_max) (limits_read place roles.family) e
+      last_passes (source_reads (Some place) roles.cover) (source_reads (Some place) roles.fee) (source_reads (Some place) roles.deductible) (source_reads (Some place) roles.copay)
+      (source_reads (Some place) roles.rate) (source_reads (Some place) roles.oop_max) (limits_read (Some place) roles.family) e
       ));
 }
 
-pub terms_alike :
+terms_alike :
     (given other : List Slot) (answers : Environment) (roles : Roles) → SameRoles given other answers roles
     → terms given answers roles ≡ terms other answers roles
 terms_alike given other answers roles same = rw (same.fee, same.deductible, same.copay, same.rate, same.oop_max, same.family) refl
 
+-- the roles have the same determination
 roles_alike :
-    (roles : Roles) (billed : ℤ) (acc : Acc) (given other : List Slot) (answers : Environment) → SameRoles given other answers roles
-    → by_roles roles billed acc given answers ≡ by_roles roles billed acc other answers
-roles_alike roles billed acc given other answers same =
+    (roles : Roles) (given other : List Slot) (answers : Environment) → SameRoles given other answers roles → by_roles roles given answers ≡ by_roles roles other answers
+roles_alike roles given other answers same =
     let remarks = remarks_of answers roles.remarks in
-    ap (λ (cover : Option Value). if is_true_flag cover then by_terms billed acc remarks (terms given answers roles) else denied_outcome remarks) same.cover
-    ∙ ap (λ (found : Result CostSharing Role). if is_true_flag (value_of other answers roles.cover) then by_terms billed acc remarks found else denied_outcome remarks)
+    ap (λ (cover : Option Value). if is_true_flag cover then by_terms remarks (terms given answers roles) else Denied remarks) same.cover
+    ∙ ap (λ (found : Result CostSharing Role). if is_true_flag (value_of other answers roles.cover) then by_terms remarks found else Denied remarks)
     (terms_alike given other answers roles same)
 
-tables_alike :
-    (roles : Option Roles) (billed : ℤ) (acc : Acc) (given other : List Slot) (answers : Result Environment Fault)
-    → AlikeWhere (λ place. option_map_or (roles_read place) roles false) given other → by_tables roles billed acc given answers ≡ by_tables roles billed acc other answers
-tables_alike None billed acc given other answers alike = refl
-tables_alike (Some roles) billed acc given other (Err fault) alike = refl
-tables_alike (Some roles) billed acc given other (Ok answers) alike = roles_alike roles billed acc given other answers (same_roles given other answers roles alike)
+pub tables_alike :
+    (roles : Option Roles) (given other : List Slot) (answers : Result Environment Fault) → AlikeWhere (λ place. any_role_reads (Some place) roles) given other
+    → by_tables roles given answers ≡ by_tables roles other answers
+tables_alike None given other answers alike = refl
+tables_alike (Some roles) given other (Err fault) alike = refl
+tables_alike (Some roles) given other (Ok answers) alike = roles_alike roles given other answers (same_roles given other answers roles alike)
 
 -- the outcome of a claim depends only on the values that the plan reads
 pub outcome_where_served :
     (plan seen : PlanParts) (claim : Claim) (acc : Acc) (given : List Slot) → plan ≡ seen → Serves plan claim acc given
-    → by_tables plan.roles claim.billed acc given (env plan given) ≡ outcome seen claim acc
+    → outcome_from claim.billed acc (determination_of plan given) ≡ outcome seen claim acc
 outcome_where_served plan seen claim acc given same serves =
     let other = given_by claim acc in
     let alike : AlikeWhere (is_read plan) given other = λ place read. serves place read ∙ sym (bound_value (values_given claim acc) place) in
-    let by_table : AlikeWhere (needs plan.tables) given other =
-    λ place read. alike place (or_left (needs plan.tables place) (option_map_or (roles_read place) plan.roles false) read) in
-    let by_role : AlikeWhere (λ place. option_map_or (roles_read place) plan.roles false) given other =
-    λ place read. alike place (or_right (needs plan.tables place) (option_map_or (roles_read place) plan.roles false) read) in
-    ap (by_tables plan.roles claim.billed acc given) (env_alike plan given other by_table)
-    ∙ tables_alike plan.roles claim.billed acc given other (env plan other) by_role ∙ ap (λ (p : PlanParts). outcome p claim acc) same
+    let by_table : AlikeWhere (needs plan.tables) given other = λ place read. alike place (or_left (needs plan.tables place) (any_role_reads (Some place) plan.roles) read) in
+    let by_role : AlikeWhere (λ place. any_role_reads (Some place) plan.roles) given other =
+    λ place read. alike place (or_right (needs plan.tables place) (any_role_reads (Some place) plan.roles) read) in
+    ap (λ (answers : Result Environment Fault). outcome_from claim.billed acc (by_tables plan.roles given answers)) (env_alike plan given other by_table)
+    ∙ ap (outcome_from claim.billed acc) (tables_alike plan.roles given other (env plan other) by_role) ∙ ap (λ (p : PlanParts). outcome p claim acc) same

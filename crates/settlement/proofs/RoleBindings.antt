@@ -1,12 +1,12 @@
 -- The places of a plan's roles among the answers of its tables.
 use Rattle.std.proofs.Common.{◌≡◌, List, [], Some, None, Result, Ok, Err, refl, subst, ◌∙◌}
 use Rattle.std.proofs.lemmas.Option.{same_Some}
-use Rattle.dtable.specs.declared.environment.Answer.{Answer}
+use Rattle.tables.specs.declared.environment.Answer.{Answer}
 use Rattle.faults.specs.declared.fault.Fault.{Fault}
-use Rattle.dtable.specs.declared.inputs.Slot.{Slot}
-use Rattle.dtable.specs.declared.roles.Roles.{Roles}
-use Rattle.dtable.specs.Environment.{Environment, answers_of, env}
-use Rattle.dtable.specs.Plan.{PlanParts}
+use Rattle.tables.specs.declared.inputs.Slot.{Slot}
+use Rattle.tables.specs.declared.roles.Roles.{Roles}
+use Rattle.tables.specs.Environment.{Environment, answers_of, env}
+use Rattle.tables.specs.Plan.{PlanParts}
 use Rattle.settlement.specs.declared.role_bindings.RoleBindings.{RoleBindings}
 use Rattle.settlement.specs.RoleBindings.{ArePlaced, ArePlacedFor}
 

@@ -3,8 +3,8 @@ use Rattle.std.specs.Prelude.{ℕ, List, [], ◌∷◌, ◌++◌, map, Option, S
 use Rattle.feel_tests.specs.Value.{kind_of}
 use Rattle.feel_tests.specs.declared.kind.Kind.{Kind}
 use Rattle.feel_tests.specs.declared.value.Value.{Value}
-use Rattle.feel_tests.specs.declared.value.Value.TheVariants.{Number, Text, Flag, Day}
-use Rattle.dtable.specs.declared.inputs.Slot.{Slot}
+use Rattle.feel_tests.specs.declared.value.Value.TheVariants.{Number, Text, Day}
+use Rattle.tables.specs.declared.inputs.Slot.{Slot}
 use Rattle.settlement.specs.declared.bindings.BoundValue.{BoundValue}
 use Rattle.settlement.specs.declared.bindings.BoundValue.TheVariants as borrowed
 use Rattle.settlement.specs.declared.acc.Acc.{Acc}
@@ -35,10 +35,8 @@ values_given claim acc = Text claim.id ∷ after_family claim.family (values_fro
 
 -- the value that is borrowed
 abbrev pub value_bound : BoundValue → Value
-value_bound (borrowed.Number number) = Number number
 value_bound (borrowed.Text text) = Text text.now
-value_bound (borrowed.Flag flag) = Flag flag
-value_bound (borrowed.Day day) = Day day
+value_bound (borrowed.Other value) = value
 
 -- a slot with its value
 abbrev pub slot_of : Value → Slot

@@ -1,9 +1,9 @@
 -- Claims and accumulators.
 use Rattle.std.specs.Prelude.{◌≡◌, pos, List, map, is_some}
 use Rattle.feel_tests.specs.Value.{kind_of}
-use Rattle.dtable.specs.declared.table.InputData.{InputData}
-use Rattle.dtable.specs.Names.{names_of}
-use Rattle.dtable.specs.Plan.{PlanParts, keeps_families}
+use Rattle.tables.specs.declared.table.InputData.{InputData}
+use Rattle.tables.specs.Names.{names_of}
+use Rattle.tables.specs.Plan.{PlanParts, keeps_families}
 use Rattle.settlement.specs.declared.acc.Acc.{Acc}
 use Rattle.settlement.specs.declared.claim.Claim.{Claim}
 

@@ -2,8 +2,8 @@
 use Rattle.std.specs.Prelude.{◌==◌, ◌&&◌, Bool, List, length}
 use Rattle.std.specs.List.{list_all, zip}
 use Rattle.feel_tests.specs.declared.value.Value.{Value}
-use Rattle.dtable.specs.declared.table.InputData.{InputData}
-use Rattle.dtable.specs.Plan.{has_kind}
+use Rattle.tables.specs.declared.table.InputData.{InputData}
+use Rattle.tables.specs.Plan.{has_kind}
 
 -- there is one value for each field, of the field's kind
 abbrev pub have_kinds : List Value → List InputData → Bool

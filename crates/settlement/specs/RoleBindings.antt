@@ -1,15 +1,15 @@
 -- The places of the outputs that give a plan's roles their values.
 use Rattle.std.specs.Prelude.{◌≡◌, ℕ, List, Option, Some, None}
 use Rattle.std.specs.Option.{option_and_then}
-use Rattle.dtable.specs.declared.environment.Answer.{Answer}
-use Rattle.dtable.specs.declared.output_place.OutputPlace.{OutputPlace}
-use Rattle.dtable.specs.declared.roles.FamilyRoles.{FamilyRoles}
-use Rattle.dtable.specs.declared.roles.Roles.{Roles}
-use Rattle.dtable.specs.declared.roles.Source.{Source}
-use Rattle.dtable.specs.declared.roles.Source.TheVariants.{Literal, Input, Output}
-use Rattle.dtable.specs.declared.table.Table.{Table}
-use Rattle.dtable.specs.Environment.{answer_of, answer_at}
-use Rattle.dtable.specs.Plan.{PlanParts}
+use Rattle.tables.specs.declared.environment.Answer.{Answer}
+use Rattle.tables.specs.declared.output_place.OutputPlace.{OutputPlace}
+use Rattle.tables.specs.declared.roles.FamilyRoles.{FamilyRoles}
+use Rattle.tables.specs.declared.roles.Roles.{Roles}
+use Rattle.tables.specs.declared.roles.Source.{Source}
+use Rattle.tables.specs.declared.roles.Source.TheVariants.{Literal, Input, Output}
+use Rattle.tables.specs.declared.table.Table.{Table}
+use Rattle.tables.specs.Environment.{answer_of, answer_at}
+use Rattle.tables.specs.Plan.{PlanParts}
 use Rattle.settlement.specs.declared.role_bindings.FamilyBindings.{FamilyBindings}
 use Rattle.settlement.specs.declared.role_bindings.RoleBindings.{RoleBindings}
 

@@ -3,20 +3,19 @@
 use Rattle.std.specs.Prelude.{ℕ, ℤ, Bool, false, if◌then◌else◌, List, [], Option, Some, None, Result, Ok, Err}
 use Rattle.std.specs.List.{filter_map}
 use Rattle.std.specs.Option.{option_and_then}
-use Rattle.std.specs.Result.{result_map_both}
 use Rattle.fixpoint.specs.Money.{is_money, is_rate}
 use Rattle.feel_tests.specs.declared.value.Value.{Value}
 use Rattle.feel_tests.specs.declared.value.Value.TheVariants.{Number, Text, Flag}
-use Rattle.dtable.specs.declared.environment.Answer.{Answer}
-use Rattle.dtable.specs.declared.environment.Answer.TheVariants.{Many}
-use Rattle.dtable.specs.declared.inputs.Slot.{Slot}
-use Rattle.dtable.specs.declared.roles.FamilyRoles.{FamilyRoles}
-use Rattle.dtable.specs.declared.roles.Roles.{Roles}
-use Rattle.dtable.specs.declared.roles.Source.{Source}
-use Rattle.dtable.specs.declared.roles.Source.TheVariants.{Literal, Input, Output}
-use Rattle.dtable.specs.Environment.{Environment, answer_of}
-use Rattle.dtable.specs.Inputs.{value_at}
-use Rattle.dtable.specs.Matching.{single}
+use Rattle.tables.specs.declared.environment.Answer.{Answer}
+use Rattle.tables.specs.declared.environment.Answer.TheVariants.{Many}
+use Rattle.tables.specs.declared.inputs.Slot.{Slot}
+use Rattle.tables.specs.declared.roles.FamilyRoles.{FamilyRoles}
+use Rattle.tables.specs.declared.roles.Roles.{Roles}
+use Rattle.tables.specs.declared.roles.Source.{Source}
+use Rattle.tables.specs.declared.roles.Source.TheVariants.{Literal, Input, Output}
+use Rattle.tables.specs.Environment.{Environment, answer_of}
+use Rattle.tables.specs.Inputs.{value_at}
+use Rattle.tables.specs.Matching.{single}
 use Rattle.faults.specs.declared.role.Role.{Role}
 use Rattle.faults.specs.declared.role.Role.TheVariants.{Fee, Deductible, Copay, Rate, OopMax, FamilyDeductible, FamilyOopMax}
 use Rattle.settlement.specs.declared.cost_sharing.FamilyLimits.{FamilyLimits}
@@ -47,17 +46,14 @@ abbrev pub with_role : {X : Type 0} → Role → Option ℤ → (ℤ → Result 
 with_role role None next = Err role
 with_role role (Some units) next = next units
 
--- the family's limits, which must be amounts of money, or the first role that is not
-abbrev pub family_terms : List Slot → Environment → FamilyRoles → Result FamilyLimits Role
-family_terms given env limits =
-    with_role FamilyDeductible (units_where is_money (value_of given env limits.deductible)) (λ deductible.
-    with_role FamilyOopMax (units_where is_money (value_of given env limits.oop_max)) (λ oop_max.
-    Ok (record { deductible = deductible; oop_max = oop_max })))
-
--- the optional limits of the family, or the first role that is not an amount of money
+-- the limits of the family, if the plan has any, or the first of the two roles that is not an amount
+-- of money
 abbrev pub limits : List Slot → Environment → Option FamilyRoles → Result (Option FamilyLimits) Role
 limits given env None = Ok None
-limits given env (Some roles) = result_map_both Some (λ role. role) (family_terms given env roles)
+limits given env (Some roles) =
+    with_role FamilyDeductible (units_where is_money (value_of given env roles.deductible)) (λ deductible.
+    with_role FamilyOopMax (units_where is_money (value_of given env roles.oop_max)) (λ oop_max.
+    Ok (Some (record { deductible = deductible; oop_max = oop_max }))))
 
 -- continues with the family's limits; an invalid limit is the error
 abbrev pub with_limits : {X : Type 0} → Result (Option FamilyLimits) Role → (Option FamilyLimits → Result X Role) → Result X Role

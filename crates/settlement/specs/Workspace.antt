@@ -1,5 +1,5 @@
 -- The workspace of a plan, and the claims that are settled with it.
-use Rattle.dtable.specs.Plan.{PlanParts}
+use Rattle.tables.specs.Plan.{PlanParts}
 use Rattle.settlement.specs.declared.claim.Claim.{Claim}
 use Rattle.settlement.specs.declared.workspace.Workspace.{Workspace}
 use Rattle.settlement.specs.Claim.{IsClaimOf}

@@ -3,7 +3,7 @@
 use crate::money::Money;
 
 /// The accumulators of a member, and the sums over all members of its family.
-#[derive(Clone, Copy, PartialEq, Eq)]
+#[derive(Clone, Copy)]
 pub struct Acc {
     /// The amount that the member has met of its deductible.
     pub met: Money,

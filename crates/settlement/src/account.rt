@@ -5,11 +5,11 @@ ghost use Rattle.settlement.specs.Accounts.{account_year};
 use crate::acc::Acc;
 use crate::claim::Claim;
 use crate::money::Money;
-use dtable::Plan;
 use feel_tests::day_year;
+use tables::Plan;
 
 /// The opening balance of a member in a benefit year.
-#[derive(Clone, Copy, PartialEq, Eq)]
+#[derive(Clone, Copy)]
 pub struct Balance {
     /// The amount that the member has met of its deductible.
     pub met: Money,

@@ -1,18 +1,18 @@
 //! The values that a claim and the accumulators give the names of a plan.
 ghost use Rattle.std.specs.Prelude.{◌≡◌, ◌<◌, ℕ, length, map, slice_get, Some, IsTrue, IfOk, OnOk};
 ghost use Rattle.std.specs.List.{All};
-ghost use Rattle.dtable.specs.Plan.{IsPlan};
+ghost use Rattle.tables.specs.Plan.{IsPlan};
 ghost use Rattle.feel_tests.specs.Value.{kind_of};
 ghost use Rattle.feel_tests.specs.declared.value.Value.TheVariants as values;
 ghost use Rattle.settlement.specs.Bindings.{accumulator_values, after_family, slot_kinds, value_bound, values_after, values_from_member, values_given};
-ghost use Rattle.settlement.specs.Reads.{is_read, limits_read, places_read, roles_read, source_reads, HasItsValue};
+ghost use Rattle.settlement.specs.Reads.{any_role_reads, is_read, limits_read, places_read, roles_read, source_reads, HasItsValue};
 
 use crate::acc::Acc;
 use crate::claim::Claim;
-use dtable::{FamilyRoles, Inputs, Plan, Roles, Sequence, Source};
-use feel_tests::{Day, Text, Value};
+use feel_tests::{Text, Value};
 use fixpoint::Fixed;
 use std::alloc::{AllocError, Global};
+use tables::{FamilyRoles, Inputs, Plan, Roles, Sequence, Source};
 
 /// The place of a claim's identifier among a plan's names. The family follows it, if the claim has
 /// one.
@@ -45,13 +45,21 @@ pub fn places_read(alloc: Global, plan: &Plan) -> Result<Sequence<usize>, AllocE
 fn is_read(plan: &Plan, place: usize) -> bool
     ensures { result ≡ is_read plan.now place }
 {
+    plan.needs(place) || any_role_reads(Some(place), plan)
+}
+
+/// Returns whether some role of the plan has the value of the name at the place. Without a place,
+/// every name is meant: then the result is whether some role has the value of an input.
+pub fn any_role_reads(place: Option<usize>, plan: &Plan) -> bool
+    ensures { result ≡ any_role_reads place plan.now.roles }
+{
     match plan.roles() {
-        Some(roles) => plan.needs(place) || roles_read(place, roles),
-        None => plan.needs(place),
+        Some(roles) => roles_read(place, roles),
+        None => false,
     }
 }
 
-fn roles_read(place: usize, roles: &Roles) -> bool
+fn roles_read(place: Option<usize>, roles: &Roles) -> bool
     ensures { result ≡ roles_read place roles.now }
 {
     source_reads(place, &roles.cover)
@@ -63,7 +71,7 @@ fn roles_read(place: usize, roles: &Roles) -> bool
         || limits_read(place, &roles.family)
 }
 
-fn limits_read(place: usize, limits: &Option<FamilyRoles>) -> bool
+fn limits_read(place: Option<usize>, limits: &Option<FamilyRoles>) -> bool
     ensures { result ≡ limits_read place limits.now }
 {
     match limits {
@@ -74,12 +82,15 @@ fn limits_read(place: usize, limits: &Option<FamilyRoles>) -> bool
     }
 }
 
-fn source_reads(place: usize, source: &Source) -> bool
+fn source_reads(place: Option<usize>, source: &Source) -> bool
     ensures { result ≡ source_reads place source.now }
 {
     match source {
         Source::Literal(_) => false,
-        Source::Input(given) => *given == place,
+        Source::Input(name) => match place {
+            Some(place) => *name == place,
+            None => true,
+        },
         Source::Output(_) => false,
     }
 }
@@ -121,19 +132,16 @@ fn bind_input(
 {
     match bound_value(claim, acc, place) {
         BoundValue::Text(text) => inputs.set_text(alloc, place, text)?,
-        BoundValue::Number(number) => inputs.set(place, Value::Number(number)),
-        BoundValue::Flag(flag) => inputs.set(place, Value::Flag(flag)),
-        BoundValue::Day(day) => inputs.set(place, Value::Day(day)),
+        BoundValue::Other(value) => inputs.set(place, value),
     }
     Ok(())
 }
 
-/// A value whose text is borrowed from the claim.
+/// A value of a claim. A text is borrowed from the claim.
+#[derive(Drop)]
 enum BoundValue<'c> {
-    Number(Fixed),
     Text(&'c Text),
-    Flag(bool),
-    Day(Day),
+    Other(Value),
 }
 
 // Returns the value of the name at a place, from 0.
@@ -171,8 +179,8 @@ fn bound_from_member<'c>(claim: &'c Claim, acc: &Acc, place: usize) -> BoundValu
 {
     match place {
         MEMBER => BoundValue::Text(&claim.member),
-        SERVICE => BoundValue::Day(claim.service),
-        BILLED => BoundValue::Number(claim.billed.amount()),
+        SERVICE => BoundValue::Other(Value::Day(claim.service)),
+        BILLED => BoundValue::Other(Value::Number(claim.billed.amount())),
         _ => bound_after_member(claim, acc, place - FIRST_FIELD),
     }
 }
@@ -185,7 +193,10 @@ fn bound_after_member<'c>(claim: &'c Claim, acc: &Acc, place: usize) -> BoundVal
     let fields = claim.fields.as_slice();
     match fields.get(place) {
         Some(value) => borrowed_value(value),
-        None => BoundValue::Number(accumulator(claim, acc, place - fields.len())),
+        None => {
+            let amount = accumulator(claim, acc, place - fields.len());
+            BoundValue::Other(Value::Number(amount))
+        }
     }
 }
 
@@ -193,10 +204,10 @@ fn borrowed_value(value: &Value) -> BoundValue<'_>
     ensures { value_bound result ≡ value.now }
 {
     match value {
-        Value::Number(number) => BoundValue::Number(*number),
         Value::Text(text) => BoundValue::Text(text),
-        Value::Flag(flag) => BoundValue::Flag(*flag),
-        Value::Day(day) => BoundValue::Day(*day),
+        Value::Number(number) => BoundValue::Other(Value::Number(*number)),
+        Value::Flag(flag) => BoundValue::Other(Value::Flag(*flag)),
+        Value::Day(day) => BoundValue::Other(Value::Day(*day)),
     }
 }
 

@@ -1,14 +1,14 @@
 //! Claims as providers file them.
 ghost use Rattle.std.specs.Prelude.{◌≡◌, ◌↔◌, IsTrue, IfOk};
 ghost use Rattle.std.specs.List.{list_all, zip};
-ghost use Rattle.dtable.specs.Names.{names_of};
-ghost use Rattle.dtable.specs.Plan.{has_kind, keeps_families};
+ghost use Rattle.tables.specs.Names.{names_of};
+ghost use Rattle.tables.specs.Plan.{has_kind, keeps_families};
 ghost use Rattle.settlement.specs.Fields.{have_kinds};
 
 use crate::money::Money;
-use dtable::{InputData, Plan, has_kind};
 use feel_tests::{Day, Sequence, Text, Value, duplicates};
 use std::alloc::{AllocError, Global};
+use tables::{InputData, Plan, has_kind};
 
 /// The number of a plan's names before its fields.
 const NAMES_BEFORE: usize = 4;

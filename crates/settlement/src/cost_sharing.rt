@@ -4,19 +4,19 @@ ghost use Rattle.std.specs.Prelude.{◌≡◌, Some, slice_get, IfOk, IsTrue};
 ghost use Rattle.std.specs.List.{filter_map};
 ghost use Rattle.std.specs.Option.{ok_or, option_and_then, option_copied};
 ghost use Rattle.fixpoint.specs.Money.{is_money, is_rate};
-ghost use Rattle.dtable.specs.Environment.{answer_at};
-ghost use Rattle.settlement.specs.RoleBindings.{IsPlaced, AreFamilyPlaced, AreLimitsPlaced, AreRemarksPlaced, ArePlaced};
-ghost use Rattle.settlement.specs.Roles.{value_of, is_true_flag, units_where, terms, family_terms, limits, remarks_of, text_of, texts_of};
+ghost use Rattle.tables.specs.Environment.{answer_at};
+ghost use Rattle.settlement.specs.RoleBindings.{IsPlaced, AreFamilyPlaced, AreRemarksPlaced, ArePlaced};
+ghost use Rattle.settlement.specs.Roles.{value_of, is_true_flag, units_where, terms, limits, remarks_of, text_of, texts_of};
 
 use crate::money::Money;
 use crate::rate::Rate;
 use crate::remark_table::RemarkTable;
 use crate::remarks::Remarks;
 use crate::role_bindings::{FamilyBindings, RoleBindings};
-use dtable::{Answer, Env, FamilyRoles, Inputs, Name, OutputPlace, Roles, Sequence, Source};
 use faults::Role;
 use feel_tests::{Text, Value};
 use std::alloc::{AllocError, Global};
+use tables::{Answer, Env, FamilyRoles, Inputs, Name, OutputPlace, Roles, Sequence, Source};
 
 /// The limits of a claim's family.
 #[derive(Clone, Copy)]
@@ -90,24 +90,9 @@ fn limits_of(
     requires { AreFamilyPlaced env.now.tables roles.now places.now }
     ensures { result ≡ limits inputs.now env.now roles.now }
 {
-    match roles {
-        Some(roles) => {
-            let terms = family_terms_of(inputs, env, roles, places)?;
-            Ok(Some(terms))
-        }
-        None => Ok(None),
-    }
-}
-
-fn family_terms_of(
-    inputs: &Inputs,
-    env: &Env,
-    roles: &FamilyRoles,
-    places: &FamilyBindings,
-) -> Result<FamilyLimits, Role>
-    requires { AreLimitsPlaced env.now.tables roles.now places.now }
-    ensures { result ≡ family_terms inputs.now env.now roles.now }
-{
+    let Some(roles) = roles else {
+        return Ok(None);
+    };
     let deductible = money_at(
         inputs,
         env,
@@ -122,10 +107,10 @@ fn family_terms_of(
         places.oop_max,
         Role::FamilyOopMax,
     )?;
-    Ok(FamilyLimits {
+    Ok(Some(FamilyLimits {
         deductible,
         oop_max,
-    })
+    }))
 }
 
 /// Returns the remarks: the texts in the output with this name, or none if the plan names no

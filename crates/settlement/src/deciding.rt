@@ -1,29 +1,29 @@
 //! The outcome of a claim, and the accumulators after it.
 ghost use Rattle.std.specs.Prelude.{◌≡◌, IfOk, IfSome, IsSome};
 ghost use Rattle.std.specs.Option.{SomeIff};
-ghost use Rattle.dtable.specs.Environment.{env};
-ghost use Rattle.dtable.specs.Inputs.{IsReady};
-ghost use Rattle.dtable.specs.Plan.{PlanParts};
+ghost use Rattle.tables.specs.Inputs.{IsReady};
+ghost use Rattle.tables.specs.Plan.{PlanParts};
 ghost use Rattle.settlement.specs.declared.claim.Claim.{Claim};
 ghost use Rattle.settlement.specs.Accumulators.{after, AreInRange};
-ghost use Rattle.settlement.specs.Determinations.{IsAlike, IsTrueOf, determination_of, by_answers};
+ghost use Rattle.settlement.specs.Determinations.{IsAlike, IsTrueOf};
 ghost use Rattle.settlement.specs.Claim.{IsClaimOf};
 ghost use Rattle.settlement.specs.RoleBindings.{ArePlaced};
-ghost use Rattle.settlement.specs.Settlement.{outcome, by_tables};
+ghost use Rattle.settlement.specs.Settlement.{by_roles, determination_of, outcome, outcome_from};
 ghost use Rattle.settlement.specs.Workspace.{IsWorkspaceOf};
 
 use crate::acc::Acc;
+use crate::bindings::any_role_reads;
 use crate::claim::Claim;
 use crate::cost_sharing::{is_covered, remarks, terms_of};
-use crate::determination::{Determination, are_answered};
+use crate::determination::Determination;
 use crate::determination_cache::DeterminationCache;
 use crate::money::Money;
 use crate::outcome::Outcome;
 use crate::workspace::Workspace;
-use dtable::{Env, InputClasses, Inputs, Roles, Valuer};
 use faults::Reason;
 use std::alloc::{AllocError, Global};
 use std::marker::Model;
+use tables::{Env, InputClasses, Inputs, Roles, Valuer};
 
 /// Decides claims by one valuer, one after another. Claims of one input class are decided by one
 /// value of the tables.
@@ -44,7 +44,7 @@ impl<'v, V: InputClasses> Drop for Adjudicator<'v, V> {
 }
 
 impl<'v, V: InputClasses> Model for Adjudicator<'v, V> {
-    ghost use Rattle.dtable.specs.Plan.{PlanParts};
+    ghost use Rattle.tables.specs.Plan.{PlanParts};
     ghost use Rattle.settlement.specs.Determinations.{IsTrueOf};
     ghost use Rattle.settlement.specs.Workspace.{IsWorkspaceOf};
 
@@ -123,8 +123,8 @@ fn decide_by_class<V: InputClasses>(
     requires workspace { IsWorkspaceOf (V.plan_of valuer.now) workspace.now }
     requires ready { IsReady (V.plan_of valuer.now).tables workspace.now.inputs }
     requires true_yet { IsTrueOf (V.in_class valuer.now) (V.plan_of valuer.now) cache.old }
-    ensures decided { let plan = V.plan_of valuer.now in let given = workspace.now.inputs in
-        IfOk result (λ decided. decided ≡ by_tables plan.roles billed acc given (env plan given)) }
+    ensures decided { IfOk result (λ decided. decided
+        ≡ outcome_from billed acc (determination_of (V.plan_of valuer.now) workspace.now.inputs)) }
     ensures true_still { IsTrueOf (V.in_class valuer.now) (V.plan_of valuer.now) cache.new }
 {
     let Some(input_class) = class_of(valuer, &workspace.inputs, cache) else {
@@ -141,7 +141,7 @@ fn decide_by_class<V: InputClasses>(
     let decided = determination.outcome(billed, &acc)?;
     // If a role has the value of an input, two claims of one input class may have different
     // determinations.
-    if !are_answered(valuer.plan()) {
+    if any_role_reads(None, valuer.plan()) {
         cache.disable();
         return Ok(decided);
     }
@@ -171,8 +171,8 @@ fn determination_of<V: Valuer>(
     requires roles { IsSome (V.plan_of valuer.now).roles }
     requires workspace { IsWorkspaceOf (V.plan_of valuer.now) workspace.now }
     requires ready { IsReady (V.plan_of valuer.now).tables workspace.now.inputs }
-    ensures { let plan = V.plan_of valuer.now in let given = workspace.now.inputs in
-        IfOk result (λ found. found ≡ determination_of plan.roles given (env plan given)) }
+    ensures { IfOk result (λ found.
+        found ≡ determination_of (V.plan_of valuer.now) workspace.now.inputs) }
 {
     let roles = valuer.plan().roles().unwrap();
     match valuer.value(alloc, &workspace.inputs) {
@@ -189,7 +189,7 @@ fn determination_of<V: Valuer>(
 fn by_roles(workspace: &Workspace, env: &Env, roles: &Roles) -> Result<Determination, AllocError>
     requires { ArePlaced env.now.tables roles.now workspace.now.roles }
     ensures { IfOk result (λ determination.
-        determination ≡ by_answers roles.now workspace.now.inputs env.now) }
+        determination ≡ by_roles roles.now workspace.now.inputs env.now) }
 {
     let inputs = &workspace.inputs;
     let places = &workspace.roles;

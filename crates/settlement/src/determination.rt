@@ -1,8 +1,7 @@
 //! The determination of a claim: the part of its outcome that depends neither on the billed amount
 //! nor on the accumulators.
 ghost use Rattle.std.specs.Prelude.{◌≡◌, IfOk};
-ghost use Rattle.settlement.specs.Determinations.{are_answered, is_given, limits_given, outcome_by, roles_given};
-ghost use Rattle.settlement.specs.Settlement.{amounts, paid_outcome, within_range};
+ghost use Rattle.settlement.specs.Settlement.{amounts, outcome_from, paid_outcome, within_range};
 
 use crate::acc::Acc;
 use crate::amounts::amounts_of;
@@ -10,7 +9,6 @@ use crate::cost_sharing::CostSharing;
 use crate::money::Money;
 use crate::outcome::Outcome;
 use crate::remarks::Remarks;
-use dtable::{FamilyRoles, Plan, Roles, Source};
 use faults::Reason;
 use std::alloc::AllocError;
 
@@ -38,7 +36,7 @@ impl Drop for Determination {
 impl Determination {
     /// Returns the outcome of a claim from its billed amount and the accumulators before it.
     pub fn outcome(&self, billed: Money, acc: &Acc) -> Result<Outcome, AllocError>
-        ensures { IfOk result (λ decided. decided ≡ outcome_by billed acc.now self.now) }
+        ensures { IfOk result (λ decided. decided ≡ outcome_from billed acc.now self.now) }
     {
         match self {
             Determination::Pended(reason) => Ok(Outcome::pended_outcome(*reason)),
@@ -64,46 +62,4 @@ fn covered_outcome(
         return Ok(Outcome::pended_outcome(Reason::Range { table: 0 }));
     }
     Ok(Outcome::paid_outcome(amounts, remarks.share()?))
-}
-
-/// Returns whether no role of the plan has the value of an input. Otherwise two claims of one input
-/// class may have different determinations.
-pub fn are_answered(plan: &Plan) -> bool
-    ensures { result ≡ are_answered plan.now.roles }
-{
-    match plan.roles() {
-        Some(roles) => !roles_given(roles),
-        None => true,
-    }
-}
-
-fn roles_given(roles: &Roles) -> bool
-    ensures { result ≡ roles_given roles.now }
-{
-    is_given(&roles.cover)
-        || is_given(&roles.fee)
-        || is_given(&roles.deductible)
-        || is_given(&roles.copay)
-        || is_given(&roles.rate)
-        || is_given(&roles.oop_max)
-        || limits_given(&roles.family)
-}
-
-fn limits_given(limits: &Option<FamilyRoles>) -> bool
-    ensures { result ≡ limits_given limits.now }
-{
-    match limits {
-        Some(limits) => is_given(&limits.deductible) || is_given(&limits.oop_max),
-        None => false,
-    }
-}
-
-fn is_given(source: &Source) -> bool
-    ensures { result ≡ is_given source.now }
-{
-    match source {
-        Source::Literal(_) => false,
-        Source::Input(_) => true,
-        Source::Output(_) => false,
-    }
 }

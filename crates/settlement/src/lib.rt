@@ -2,7 +2,7 @@
 //! on the accumulators of its member and of the member's family.
 //!
 //! A provider files a `Claim`. An `Acc` has the accumulators of a member and of its family.
-//! `decide` evaluates the plan's tables for both by any `Valuer` of `dtable`, takes the plan's
+//! `decide` evaluates the plan's tables for both by any `Valuer` of `tables`, takes the plan's
 //! roles from their answers and returns the `Outcome`: paid with its amounts, denied, or pended
 //! with a `Reason`. An `Adjudicator` decides many claims by a valuer with `InputClasses`, and reuses
 //! what the claims of a class have in common. `after` returns the accumulators after the outcome.

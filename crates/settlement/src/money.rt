@@ -4,7 +4,7 @@ ghost use Rattle.std.specs.Int.{int_min};
 ghost use Rattle.std.specs.Option.{SomeIff};
 ghost use Rattle.fixpoint.specs.Money.{cents_of_product, IsMoney};
 ghost use Rattle.settlement.specs.Amount.{IsAmount, is_in_range};
-ghost use Rattle.settlement.specs.Settlement.{left_of};
+ghost use Rattle.settlement.specs.Settlement.{remaining};
 
 use crate::rate::Rate;
 use fixpoint::Fixed;
@@ -12,7 +12,7 @@ use std::marker::Model;
 
 /// An amount of money: a whole count of cents that is not negative. Contracts see it as its units:
 /// ten-thousandths, of which a cent has a hundred.
-#[derive(Clone, Copy, PartialEq, Eq, PartialOrd, Ord)]
+#[derive(Clone, Copy, PartialEq, Eq, PartialOrd)]
 pub struct Money {
     amount: Fixed,
 }
@@ -93,7 +93,7 @@ impl Money {
     /// Returns what remains of this limit after the `used` amount, and zero if that exceeds the
     /// limit.
     pub(crate) fn remaining(self, used: Money) -> Money
-        ensures { result ≡ left_of self used }
+        ensures { result ≡ remaining self used }
     {
         if used < self {
             self.minus(used)

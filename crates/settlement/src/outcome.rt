@@ -8,7 +8,7 @@ use crate::remarks::Remarks;
 use faults::Reason;
 
 /// The decision on a claim.
-#[derive(Clone, Copy, Debug, PartialEq, Eq, Drop)]
+#[derive(Clone, Copy, Debug, Drop)]
 pub enum Verdict {
     /// The claim is covered, and its amounts state who pays what.
     Paid,

@@ -4,12 +4,12 @@ ghost use Rattle.std.specs.List.Sorted.{IsSearchInRange};
 
 use crate::cost_sharing::text_of;
 use crate::remarks::{Remarks, word_at};
-use dtable::{OutputPlace, Plan, Sequence, Table};
 use feel_tests::{Text, Value};
 use smallvec::SmallVec;
 use std::alloc::{AllocError, Global};
 use std::cmp::Ordering;
 use std::sync::Arc;
+use tables::{OutputPlace, Plan, Sequence, Table};
 
 /// The remark texts of a plan's rules. The remarks of an outcome refer to them by their places.
 ///

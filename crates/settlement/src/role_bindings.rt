@@ -2,7 +2,7 @@
 //! each claim.
 ghost use Rattle.settlement.specs.RoleBindings.{IsPlaced, AreFamilyPlaced, AreRemarksPlaced, ArePlacedFor};
 
-use dtable::{FamilyRoles, Name, OutputPlace, Plan, Source};
+use tables::{FamilyRoles, Name, OutputPlace, Plan, Source};
 
 /// For each limit of the family, the place of the output that gives its value, if one does.
 #[derive(Drop)]

@@ -1,6 +1,6 @@
 //! What the claims of a plan are settled with.
 ghost use Rattle.std.specs.Prelude.{IfOk, OnOk};
-ghost use Rattle.dtable.specs.Plan.{PlanParts};
+ghost use Rattle.tables.specs.Plan.{PlanParts};
 ghost use Rattle.settlement.specs.Claim.{IsClaimOf};
 ghost use Rattle.settlement.specs.Reads.{Serves};
 ghost use Rattle.settlement.specs.Workspace.{FitsIn, IsWorkspaceOf};
@@ -10,8 +10,8 @@ use crate::bindings::{bind_inputs, places_read};
 use crate::claim::Claim;
 use crate::remark_table::RemarkTable;
 use crate::role_bindings::{RoleBindings, role_places};
-use dtable::{Inputs, Plan, Sequence};
 use std::alloc::{AllocError, Global};
+use tables::{Inputs, Plan, Sequence};
 
 /// The slots for the values that a plan reads, which are made once and set again for each claim,
 /// and what is found once for the plan's roles.

@@ -15,10 +15,10 @@ loop-place-preserved c =
     let below : place < names = omega (arith, c.loop-place-test.true, ap length c.names-place-end.ensures.names) in
     elim c.if-is_read.branch [
       | then-is_read+in_ok-push w ↦
-          let passes : is_read plan place ≡ true = cc in
+          let passes : is_read plan place ≡ true = sym c.is_read.ensures ∙ w.if-is_read.true in
           w.places-is ∙ w.in_ok-push.ensures.ok ∙ ap (λ places. places ++ place ∷ []) c.loop-place.invariant ∙ sym (one_more (is_read plan) names place true below passes)
       | else-is_read w ↦
-          let passes : is_read plan place ≡ false = cc in
+          let passes : is_read plan place ≡ false = sym c.is_read.ensures ∙ w.if-is_read.false in
           w.places-is ∙ c.loop-place.invariant ∙ sym (one_more (is_read plan) names place false below passes ∙ append-nil (filter (is_read plan) (take place (range_with_len 0 names))))
     ]
 

@@ -46,3 +46,22 @@ returns-in_err-oop_max c =
     let rate = units_there (units_where is_rate (value_of c.args.inputs.now c.args.env.now c.args.roles.now.rate)) Rate c.in_ok-rate.rate (c.in_ok-rate.ensures.value ∙ ap (λ units. ok_or units Rate) (c.rate_of.ensures ∙ ap (units_where is_rate) c.value_of.ensures)) in
     let lacks = units_lacking (units_where is_money (value_of c.args.inputs.now c.args.env.now c.args.roles.now.oop_max)) OopMax c.in_err-oop_max.field-0.0 c.in_err-oop_max.ensures in
     rw (p.1, p.2, fee, deductible, copay, rate, lacks.0, lacks.1) refl
+
+pub returns-in_err-family : goal.returns-in_err-family
+returns-in_err-family c =
+    let p = err_from_is_err_and c.from_residual-in_err-family.result c.from_residual-in_err-family.ensures.1 in
+    let fee = units_there (units_where is_money (value_of c.args.inputs.now c.args.env.now c.args.roles.now.fee)) Fee c.in_ok-fee.fee c.in_ok-fee.ensures in
+    let deductible = units_there (units_where is_money (value_of c.args.inputs.now c.args.env.now c.args.roles.now.deductible)) Deductible c.in_ok-deductible.deductible c.in_ok-deductible.ensures in
+    let copay = units_there (units_where is_money (value_of c.args.inputs.now c.args.env.now c.args.roles.now.copay)) Copay c.in_ok-copay.copay c.in_ok-copay.ensures in
+    let rate = units_there (units_where is_rate (value_of c.args.inputs.now c.args.env.now c.args.roles.now.rate)) Rate c.in_ok-rate.rate (c.in_ok-rate.ensures.value ∙ ap (λ units. ok_or units Rate) (c.rate_of.ensures ∙ ap (units_where is_rate) c.value_of.ensures)) in
+    let oop_max = units_there (units_where is_money (value_of c.args.inputs.now c.args.env.now c.args.roles.now.oop_max)) OopMax c.in_ok-oop_max.oop_max c.in_ok-oop_max.ensures in
+    rw (p.1, p.2, fee, deductible, copay, rate, oop_max, ← c.in_err-family.ensures) refl
+
+pub returns : goal.returns
+returns c =
+    let fee = units_there (units_where is_money (value_of c.args.inputs.now c.args.env.now c.args.roles.now.fee)) Fee c.in_ok-fee.fee c.in_ok-fee.ensures in
+    let deductible = units_there (units_where is_money (value_of c.args.inputs.now c.args.env.now c.args.roles.now.deductible)) Deductible c.in_ok-deductible.deductible c.in_ok-deductible.ensures in
+    let copay = units_there (units_where is_money (value_of c.args.inputs.now c.args.env.now c.args.roles.now.copay)) Copay c.in_ok-copay.copay c.in_ok-copay.ensures in
+    let rate = units_there (units_where is_rate (value_of c.args.inputs.now c.args.env.now c.args.roles.now.rate)) Rate c.in_ok-rate.rate (c.in_ok-rate.ensures.value ∙ ap (λ units. ok_or units Rate) (c.rate_of.ensures ∙ ap (units_where is_rate) c.value_of.ensures)) in
+    let oop_max = units_there (units_where is_money (value_of c.args.inputs.now c.args.env.now c.args.roles.now.oop_max)) OopMax c.in_ok-oop_max.oop_max c.in_ok-oop_max.ensures in
+    rw (fee, deductible, copay, rate, oop_max, ← c.in_ok-family.ensures) refl

@@ -1,9 +1,8 @@
-use Rattle.std.proofs.Common.{refl, ap, ◌∙◌}
+use Rattle.std.proofs.Common.{◌≡◌, refl, ap, ◌∙◌}
 use Rattle.std.proofs.lemmas.Result.{IfOk-weaker}
-use Rattle.dtable.specs.Environment.{env}
-use Rattle.settlement.specs.Determinations.{determination_of, outcome_by}
+use Rattle.settlement.specs.declared.outcome.Outcome.{Outcome}
+use Rattle.settlement.specs.Settlement.{determination_of, outcome, outcome_from}
 use Rattle.settlement.proofs.AllBound.{ready_where_served, workspace_of_seen}
-use Rattle.settlement.proofs.Determinations.{outcome_by_benefit}
 use Rattle.settlement.proofs.ReadAlike.{outcome_where_served}
 use Rattle.settlement.proofs.deciding.decide.Goals as goal
 
@@ -31,6 +30,7 @@ returns g c =
     let given = c.bind.new.self.inputs in
     let workspace = workspace_of_seen (g.V.Valuer.plan_of c.args.valuer.now) c.plan.result.now c.in_ok-workspace.workspace c.plan.ensures c.in_ok-workspace.ensures in
     let serves = c.in_ok-bind.ensures.serves plan workspace c.requires.fields in
-    let by_plan = ap (outcome_by claim.billed c.args.acc) {y = determination_of plan.roles given (env plan given)} c.in_ok-determination.ensures
-    ∙ outcome_by_benefit plan.roles claim.billed c.args.acc given (env plan given) ∙ outcome_where_served plan plan claim c.args.acc given refl serves in
-    IfOk-weaker c.outcome.result _ _ (λ decided is. is ∙ by_plan) c.outcome.ensures
+    let by_plan = ap (outcome_from claim.billed c.args.acc) {y = determination_of plan given} c.in_ok-determination.ensures ∙ outcome_where_served plan plan claim c.args.acc given refl serves in
+    let by_found : Outcome → Type 0 = λ decided. decided ≡ outcome_from claim.billed c.args.acc c.in_ok-determination.determination in
+    let by_claim : Outcome → Type 0 = λ decided. decided ≡ outcome plan claim c.args.acc in
+    IfOk-weaker c.outcome.result by_found by_claim (λ decided is. is ∙ by_plan) c.outcome.ensures

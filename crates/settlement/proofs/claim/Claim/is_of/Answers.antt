@@ -1,5 +1,5 @@
 use Rattle.std.proofs.Common.{◌≡◌, is_some, ap, sym, ◌∙◌}
-use Rattle.dtable.specs.Plan.{keeps_families}
+use Rattle.tables.specs.Plan.{keeps_families}
 use Rattle.settlement.specs.Fields.{have_kinds}
 use Rattle.settlement.proofs.Fields.{claim_from_test, compared_same, same_compared, test_from_claim}
 use Rattle.settlement.proofs.claim.Claim.is_of.Goals as goal
