@@ -19,7 +19,7 @@ sum_to-zero : (n : ℕ) → sum_to n (λ p. 0) ≡ 0
 sum_to-zero zero = refl
 sum_to-zero (suc n) = let rest : sum_to n (λ p. 0) ≡ 0 = sum_to-zero n in omega arith
 
-sum_to-add : (n : ℕ) (f g : ℕ → ℕ) → sum_to n (λ p. f p + g p) ≡ sum_to n f + sum_to n g
+pub sum_to-add : (n : ℕ) (f g : ℕ → ℕ) → sum_to n (λ p. f p + g p) ≡ sum_to n f + sum_to n g
 sum_to-add zero f g = refl
 sum_to-add (suc n) f g = let rest : sum_to n (λ p. f p + g p) ≡ sum_to n f + sum_to n g = sum_to-add n f g in omega arith
 
@@ -59,7 +59,7 @@ claims_by_provider (file ∷ files) =
     ap (λ w. length file + w) (rest ∙ moved) ∙ sym first
 
 -- only existing providers have claims
-claims_known : (files : List (List Claim)) (p : ℕ) → 0 < length (claims_in files p) → (1 ≤ p) × (p ≤ length files)
+pub claims_known : (files : List (List Claim)) (p : ℕ) → 0 < length (claims_in files p) → (1 ≤ p) × (p ≤ length files)
 claims_known files zero h = let none : ⊥ = omega arith in absurd none
 claims_known files (suc i) h =
     elim (cases_lt i (length files)) [
@@ -71,7 +71,7 @@ claims_known files (suc i) h =
     ]
 
 -- an accept counts once, for its provider
-counted_before : (n p place : ℕ) → n < p → sum_to n (λ q. length (place_in q (Accept p place))) ≡ 0
+pub counted_before : (n p place : ℕ) → n < p → sum_to n (λ q. length (place_in q (Accept p place))) ≡ 0
 counted_before zero p place h = refl
 counted_before (suc n) p place h =
     let rest : sum_to n (λ q. length (place_in q (Accept p place))) ≡ 0 = counted_before n p place (omega arith) in

@@ -4,7 +4,7 @@ use Rattle.std.specs.Str.{bytes_eq}
 use Rattle.std.proofs.lemmas.Bool.{and_parts, cond-false}
 use Rattle.std.proofs.lemmas.Int.{ints}
 use Rattle.std.proofs.lemmas.Slice.Eq.{bytes_eq-Decides}
-use Rattle.dtable.specs.Plan.{PlanParts}
+use Rattle.tables.specs.Plan.{PlanParts}
 use Rattle.settlement.specs.Accounts.{Account, account_of, is_same, part, grown}
 use Rattle.settlement.specs.Opening.{opening}
 use Rattle.settlement.specs.declared.acc.Acc.{Acc}

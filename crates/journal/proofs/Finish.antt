@@ -3,7 +3,7 @@ use Rattle.std.proofs.Common.{◌≡◌, ℕ, zero, suc, ◌<◌, ◌≤◌, ◌
 use Rattle.std.proofs.lemmas.Bool.{both_ways, or_cases, or_left, and_parts, cases_lt, cases_eq}
 use Rattle.std.proofs.lemmas.Option.{same_Some, slice_get_within}
 use Rattle.journal.specs.Terms.{Terms, all_claims, at_most}
-use Rattle.journal.specs.Events.{At, accepted_count, is_end, has_end, is_take, has_take, has_decision, is_intake, reached, all_ended, due}
+use Rattle.journal.specs.Events.{At, accepted_count, closed, is_end, has_end, is_take, has_take, has_decision, is_intake, reached, all_ended, due}
 use Rattle.journal.specs.Lawful.{Sound, Lawful, Finished, ClosesWhenDue}
 use Rattle.journal.specs.declared.event.Event.{Event}
 use Rattle.journal.specs.declared.event.Event.TheVariants.{Accept, End, Close, Take, Decide}
@@ -86,11 +86,14 @@ module _ (T : Terms) (J : List Event) (S : Sound T J) (i : ℕ) (at : At J i Clo
             ]
       ]
 
-pub finished_count : (T : Terms) (J : List Event) → Finished T J → accepted_count J ≡ at_most T.cutoff (all_claims T)
-finished_count T J F =
-    let S = F.lawful.sound in
-    let s = close_located J F.closed in
+-- a closed journal has accepted all claims, or as many as the cutoff
+pub closed_count : (T : Terms) (J : List Event) → Sound T J → closed J ≡ true → accepted_count J ≡ at_most T.cutoff (all_claims T)
+closed_count T J S is_closed =
+    let s = close_located J is_closed in
     lesser T J S s.index s.at (S.closes s.index s.at) T.cutoff refl
+
+pub finished_count : (T : Terms) (J : List Event) → Finished T J → accepted_count J ≡ at_most T.cutoff (all_claims T)
+finished_count T J F = closed_count T J F.lawful.sound F.closed
 
 -- a position that was taken is an accepted one
 taken_accepted : (T : Terms) (J : List Event) → Sound T J → (k : ℕ) → has_take J k ≡ true → k < accepted_count J

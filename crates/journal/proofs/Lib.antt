@@ -11,3 +11,4 @@ pub mod Worked
 pub mod Turns
 pub mod Families
 pub mod Filing
+pub mod InOrder

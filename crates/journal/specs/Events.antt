@@ -3,7 +3,7 @@
 use Rattle.std.specs.Prelude.{◌≡◌, ℕ, zero, suc, ◌==◌, Bool, true, false, cond, ◌&&◌, ◌||◌, List, [], ◌∷◌, map, take, length, get_or, slice_get, Option, Some, None, flat_map, fold, option_map}
 use Rattle.std.specs.List.{list_any}
 use Rattle.std.specs.Str.{bytes_eq}
-use Rattle.dtable.specs.Plan.{PlanParts}
+use Rattle.tables.specs.Plan.{PlanParts}
 use Rattle.journal.specs.Settled.{outcome_of, accumulated}
 use Rattle.settlement.specs.Accounts.{Account, account_of, family_of, is_family_year, is_same}
 use Rattle.settlement.specs.declared.acc.Acc.{Acc}

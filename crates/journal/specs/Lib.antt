@@ -9,3 +9,4 @@ pub mod Turns
 pub mod Families
 pub mod TestWords
 pub mod Order
+pub mod InOrder

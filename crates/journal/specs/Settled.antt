@@ -1,6 +1,6 @@
 -- The settlement, as journals use it: proofs about journals do not depend on how it is defined.
 -- Where they do, `unfolding` opens both definitions.
-use Rattle.dtable.specs.Plan.{PlanParts}
+use Rattle.tables.specs.Plan.{PlanParts}
 use Rattle.std.specs.Prelude.{Bool}
 use Rattle.settlement.specs.Accounts.{grown}
 use Rattle.settlement.specs.Settlement.{outcome}

@@ -1,7 +1,7 @@
--- Definitions for tests only: journals that were worked out by hand, and the properties that they
--- must have.
+-- Journals that were worked out by hand, and the properties that they must have. Nothing else cites
+-- them.
 use Rattle.std.specs.Prelude.{◌≡◌, ◌≢◌, true, false, List, [], ◌∷◌, ◌++◌, Some, None}
-use Rattle.dtable.specs.Plan.{PlanParts}
+use Rattle.tables.specs.Plan.{PlanParts}
 use Rattle.settlement.specs.Accounts.{family_of}
 use Rattle.settlement.specs.Claim.{nothing_yet}
 use Rattle.settlement.specs.declared.claim.Claim.{Claim}

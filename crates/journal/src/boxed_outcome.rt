@@ -43,12 +43,4 @@ impl BoxedOutcome {
     {
         &*self.outcome
     }
-
-    /// Unboxes the outcome.
-    pub fn into_outcome(self) -> Outcome
-        ensures { result ≡ self }
-    {
-        let BoxedOutcome { outcome } = self;
-        Box::into_inner(outcome)
-    }
 }

@@ -16,6 +16,7 @@ ghost use Rattle.journal.specs.Laws.{
   JobsAreStable,
 };
 ghost use Rattle.journal.specs.Order.{StaysInOrder};
+ghost use Rattle.journal.specs.InOrder.{DueClaimStaysInOrder, OrderIsOne};
 ghost use Rattle.journal.specs.Turns.{TakeTurns};
 ghost use Rattle.journal.specs.Families.{FamiliesAreTheirMembers};
 
@@ -86,4 +87,16 @@ pub fn families_are_their_members()
 /// provider is accepted, provided that all earlier files have ended.
 pub fn acceptance_stays_in_order()
     ensures { StaysInOrder }
+{}
+
+/// An order of acceptance leaves no choice: of two lists of its first claims the shorter one begins
+/// the longer one.
+pub fn order_leaves_no_choice()
+    ensures { OrderIsOne }
+{}
+
+/// If acceptance has followed an order, it still does after a claim is accepted for which all
+/// claims before it in the order are accepted.
+pub fn due_claim_stays_in_order()
+    ensures { DueClaimStaysInOrder }
 {}

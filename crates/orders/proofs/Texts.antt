@@ -1,8 +1,8 @@
--- For given terms there is at most one remittance in the order of the files.
-use Rattle.std.proofs.Common.{◌≡◌, ℕ, List, [], ◌∷◌, ◌++◌, map, take, length, get_or, slice_get, fold, Option, None, option_map, option_and_then, refl, sym, ap, ◌∙◌, subst}
+-- For given terms there is at most one remittance in an order of acceptance.
+use Rattle.std.proofs.Common.{◌≡◌, ◌≢◌, ℕ, List, [], ◌∷◌, ◌++◌, map, take, length, get_or, slice_get, fold, Option, None, option_map, option_and_then, refl, sym, ap, ◌∙◌, subst}
 use Rattle.std.specs.List.{AllZip}
 use Rattle.fixpoint.specs.Money.{money_text}
-use Rattle.dtable.specs.Plan.{IsPlan, PlanParts}
+use Rattle.tables.specs.Plan.{IsPlan, PlanParts}
 use Rattle.settlement.specs.Accounts.{Account, account_of}
 use Rattle.settlement.specs.Opening.{opening}
 use Rattle.settlement.specs.declared.claim.Claim.{Claim}
@@ -21,9 +21,12 @@ use Rattle.remit.specs.Amounts.{amounts, amount_of}
 use Rattle.remit.specs.Decided.{position_from}
 use Rattle.remit.specs.Records.{header_fields, records_of, total_front}
 use Rattle.remit.specs.Report.{text_of}
-use Rattle.journal.specs.Order.{in_file_order}
+use Rattle.journal.specs.InOrder.{AreFirstInOrder, OrderIsOne}
+use Rattle.journal.specs.declared.order.Order.{Order}
+use Rattle.journal.specs.declared.order.Order.TheVariants.{Any}
 use Rattle.orders.specs.Order.{outcome_by, paid_part, report_by, sum_below}
 use Rattle.orders.specs.Remittance.{AreAlike, IsOrderedRemittanceOf}
+use Rattle.orders.proofs.Filing.{same_claims}
 use Rattle.orders.proofs.Reports.{report_so}
 
 -- each text has at most one list of rows
@@ -77,9 +80,9 @@ report_is : (version : ℕ) (T : Terms) (order : List Filed) (files : List (List
 unfolding report_of
 report_is version T order files = refl
 
-pub one_remittance : FinishedTakesAll → TextHasOneListOfRows → (parts other : TermsParts) (bytes others : List ℕ) → IsPlan parts.plan → AreAlike parts other
-    → IsOrderedRemittanceOf parts bytes → IsOrderedRemittanceOf other others → bytes ≡ others
-one_remittance all law parts other bytes others is alike a b =
+pub one_remittance : FinishedTakesAll → OrderIsOne → TextHasOneListOfRows → (order : Order) (parts other : TermsParts) (bytes others : List ℕ) → order ≢ Any → IsPlan parts.plan → AreAlike parts other
+    → IsOrderedRemittanceOf order parts bytes → IsOrderedRemittanceOf order other others → bytes ≡ others
+one_remittance all one law order parts other bytes others ordered is alike a b =
     let T = a.terms in
     let U = b.terms in
     let S = a.are_terms in
@@ -92,9 +95,10 @@ one_remittance all law parts other bytes others is alike a b =
     let books : ◌≡◌ {A = Book} (opening T.balances) (opening U.balances) = λ i account. opened account i in
     let cutoff : T.cutoff ≡ U.cutoff = S.cutoff ∙ alike.cutoff ∙ sym V.cutoff in
     let as_many : accepted_count a.journal ≡ accepted_count b.journal = all T a.journal a.finished ∙ (λ i. at_most (cutoff i) (claims_in_all (files i))) ∙ sym (all U b.journal b.finished) in
-    let order : accepts a.journal ≡ accepts b.journal = a.ordered ∙ (λ i. take (as_many i) (in_file_order 1 (files i))) ∙ sym b.ordered in
+    let theirs_here : AreFirstInOrder order T.files (accepts b.journal) = subst (λ fs. AreFirstInOrder order fs (accepts b.journal)) (sym files) b.ordered in
+    let accepted : accepts a.journal ≡ accepts b.journal = same_claims one order T.files (accepts a.journal) (accepts b.journal) ordered a.ordered theirs_here as_many in
     let outcomes : outcome_by T (accepts a.journal) ≡ outcome_by U (accepts b.journal) =
-    outcomes_are T (accepts a.journal) ∙ (λ i. outcomes_of (plan i) (files i) (books i) (order i)) ∙ sym (outcomes_are U (accepts b.journal)) in
+    outcomes_are T (accepts a.journal) ∙ (λ i. outcomes_of (plan i) (files i) (books i) (accepted i)) ∙ sym (outcomes_are U (accepts b.journal)) in
     let rows_theirs : AllZip (AreRowsOf parts.plan.names) parts.files b.report.files =
     subst (λ (p : PlanParts). AllZip (AreRowsOf p.names) parts.files b.report.files) (sym alike.plan) (subst (λ ts. AllZip (AreRowsOf other.plan.names) ts b.report.files) (sym alike.files) b.report.are_rows) in
     let rows : a.report.files ≡ b.report.files = rows_one law parts.plan is parts.files a.report.files b.report.files a.report.are_rows rows_theirs in
@@ -102,14 +106,14 @@ one_remittance all law parts other bytes others is alike a b =
     let mine = report_so parts.plan.version T a.journal a.report.files a.finished ∙ report_is parts.plan.version T (accepts a.journal) a.report.files in
     let yours = report_so other.plan.version U b.journal b.report.files b.finished ∙ report_is other.plan.version U (accepts b.journal) b.report.files in
     a.report.bytes_are ∙ ap text_of mine
-    ∙ (λ i. text_of (report_of (version i) (outcomes i) (order i) (rows i)))
+    ∙ (λ i. text_of (report_of (version i) (outcomes i) (accepted i) (rows i)))
     ∙ sym (b.report.bytes_are ∙ ap text_of yours)
 
-pub texts_have_one : FinishedTakesAll → TextHasOneListOfRows → SpellsOnePlain → (plan : PlanParts) (files : List (List ℕ)) (balances : Option (List ℕ)) (cutoff : Option ℕ) (parts other : TermsParts)
-    (bytes others : List ℕ) → IsPlan plan → AreTermsOf plan files balances cutoff parts → AreTermsOf plan files balances cutoff other → IsOrderedRemittanceOf parts bytes
-    → IsOrderedRemittanceOf other others → bytes ≡ others
-texts_have_one all law plain plan files balances cutoff parts other bytes others is a b =
-    one_remittance all law parts other bytes others (subst IsPlan (sym a.plan_is) is)
+pub texts_have_one : FinishedTakesAll → OrderIsOne → TextHasOneListOfRows → SpellsOnePlain → (order : Order) (plan : PlanParts) (files : List (List ℕ)) (balances : Option (List ℕ)) (cutoff : Option ℕ) (parts other : TermsParts)
+    (bytes others : List ℕ) → order ≢ Any → IsPlan plan → AreTermsOf plan files balances cutoff parts → AreTermsOf plan files balances cutoff other → IsOrderedRemittanceOf order parts bytes
+    → IsOrderedRemittanceOf order other others → bytes ≡ others
+texts_have_one all one law plain order plan files balances cutoff parts other bytes others ordered is a b =
+    one_remittance all one law order parts other bytes others ordered (subst IsPlan (sym a.plan_is) is)
     (record {
       plan = a.plan_is ∙ sym b.plan_is;
       files = a.files_are ∙ sym b.files_are;

@@ -1,5 +1,5 @@
 -- The laws of the order of acceptance.
-use Rattle.std.specs.Prelude.{◌≡◌, ◌<◌, ℕ, ℤ, List}
+use Rattle.std.specs.Prelude.{◌≡◌, ◌≢◌, ◌<◌, ℕ, ℤ, List}
 use Rattle.settlement.specs.declared.outcome.Outcome.{Outcome}
 use Rattle.intake_csv.specs.declared.rows.Row.{Row}
 use Rattle.journal.specs.Terms.{Terms}
@@ -8,7 +8,9 @@ use Rattle.journal.specs.Lawful.{Finished}
 use Rattle.journal.specs.declared.event.Event.{Event}
 use Rattle.remit.specs.Decided.{decision_at, paid_outcomes, sum_of}
 use Rattle.remit.specs.Report.{report_records}
-use Rattle.journal.specs.Order.{IsInOrder}
+use Rattle.journal.specs.InOrder.{AreFirstInOrder}
+use Rattle.journal.specs.declared.order.Order.{Order}
+use Rattle.journal.specs.declared.order.Order.TheVariants.{Any}
 use Rattle.orders.specs.Order.{outcome_by, report_by, total_by}
 
 -- in a finished journal the outcome at each position is the one that the order of acceptance
@@ -25,7 +27,8 @@ TotalsByOrder = (T : Terms) (J : List Event) (amount : Outcome → ℤ) → Fini
 abbrev pub ReportIsOfItsOrder : Type 0
 ReportIsOfItsOrder = (version : ℕ) (T : Terms) (J : List Event) (files : List (List Row)) → Finished T J → report_records version J files ≡ report_by version T (accepts J) files
 
--- journals that are finished under the same terms, and accept in the order of the files, accept the
--- same claims in the same order
+-- journals that are finished under the same terms, and accept in the same order, accept the same
+-- claims in the same order
 abbrev pub AcceptAlike : Type 0
-AcceptAlike = (T : Terms) (J K : List Event) → Finished T J → Finished T K → IsInOrder T J → IsInOrder T K → accepts J ≡ accepts K
+AcceptAlike = (order : Order) (T : Terms) (J K : List Event) → order ≢ Any → Finished T J → Finished T K
+    → AreFirstInOrder order T.files (accepts J) → AreFirstInOrder order T.files (accepts K) → accepts J ≡ accepts K

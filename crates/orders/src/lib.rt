@@ -6,6 +6,7 @@
 mod laws;
 
 pub use laws::{
-    decided_by_order, ordered_journals_accept_alike, ordered_remittance_is_one,
-    report_is_of_its_order, texts_have_one_ordered_remittance, totals_by_order,
+    decided_by_order, order_has_a_journal, order_takes_all_claims, ordered_journals_accept_alike,
+    ordered_remittance_is_one, report_is_of_its_order, texts_have_one_ordered_remittance,
+    totals_by_order,
 };
