@@ -1,23 +1,23 @@
 -- The fields of a claim in a record are those of the plan.
-use Rattle.std.proofs.Common.{◌≡◌, ◌-◌, ℕ, Bool, true, false, List, [], ◌∷◌, ◌++◌, length, map, take, Option, Some, None, is_some, refl, sym, ap, subst, ◌∙◌, arith}
+use Rattle.std.proofs.Common.{◌≡◌, ◌-◌, ℕ, Bool, true, false, List, [], ◌∷◌, ◌++◌, length, map, take, Option, Some, None, is_some, refl, sym, ap, ◌∙◌, arith}
 use Rattle.std.proofs.lemmas.List.{length-append}
 use Rattle.std.proofs.Math.Seq.{take-append_seam}
 use Rattle.feel_tests.specs.Plain.{SpellsPlain}
 use Rattle.feel_tests.specs.Value.{kind_of}
 use Rattle.feel_tests.specs.declared.kind.Kind.{Kind}
-use Rattle.feel_tests.specs.declared.kind.Kind.TheVariants as kinds
 use Rattle.feel_tests.specs.declared.value.Value.{Value}
 use Rattle.feel_tests.specs.declared.value.Value.TheVariants.{Number, Text, Flag, Day}
-use Rattle.dtable.specs.declared.table.InputData.{InputData}
-use Rattle.dtable.specs.Names.{accumulator_names, names_of}
+use Rattle.tables.specs.declared.table.InputData.{InputData}
+use Rattle.tables.specs.Names.{accumulator_names, names_of}
 use Rattle.intake_csv.specs.Records.{Fields}
-use Rattle.intake_csv.specs.Columns.{AreColumnsOf, claim_columns, fields_among, have_family, kind_under, required_column, own_columns}
-use Rattle.intake_csv.specs.Rows.{AreValues, HoldsUnder, claim_values}
+use Rattle.intake_csv.specs.Columns.{AreColumnsOf, claim_columns, fields_among, have_family, kind_under}
+use Rattle.intake_csv.specs.Record.{claim_contents}
+use Rattle.intake_csv.specs.Rows.{AreValues, claim_values}
 use Rattle.settlement.specs.Bindings.{after_family}
 use Rattle.settlement.specs.declared.claim.Claim.{Claim}
 use Rattle.intake_csv.specs.declared.column.Column.{Column}
-use Rattle.intake_csv.specs.declared.column.Content.{Content}
-use Rattle.intake_csv.specs.declared.column.Content.TheVariants.{Identifier, Plain}
+use Rattle.intake_csv.specs.declared.column.Content.TheVariants.{Plain}
+use Rattle.intake_csv.proofs.Shapes.{claim-contents}
 
 -- a denoted value has its kind
 spelled-kind : (kind : Kind) (bytes : List ℕ) (v : Value) → SpellsPlain kind bytes v → kind_of v ≡ kind
@@ -42,44 +42,26 @@ fields-among true fields =
     let size : length (names_of true fields) - 5 - 5 ≡ length fields = omega (arith, counted) in
     ap (λ n. take n (fields ++ accumulator_names true)) size ∙ take-append_seam fields (accumulator_names true)
 
--- the values in the columns of fields have the fields' kinds
-kinds-under : (header row : Fields) (fields : List InputData) (columns : List Column) (values : List Value)
-    → AreColumnsOf header (map (λ d. required_column d.name (Plain d.kind)) fields) columns → AreValues row columns values → map kind_of values ≡ map (λ d. d.kind) fields
-kinds-under header row [] [] [] h k = refl
-kinds-under header row [] [] (v ∷ vs) h k = absurd k
-kinds-under header row [] (c ∷ cs) values h k = absurd h
-kinds-under header row (f ∷ fs) [] values h k = absurd h
-kinds-under header row (f ∷ fs) (c ∷ cs) [] h k = absurd k
-kinds-under header row (f ∷ fs) (c ∷ cs) (v ∷ vs) h k =
-    let kind : kind_of v ≡ f.kind = spelled-kind (kind_under c.content) k.0.bytes v k.0.holds.spells.plain ∙ ap kind_under h.0.content in
-    let others = kinds-under header row fs cs vs h.1 k.1 in
-    rw (kind, others) refl
+-- the values of a record have the kinds of their columns
+kinds-of : (row : Fields) (columns : List Column) (values : List Value) → AreValues row columns values → map kind_of values ≡ map kind_under (map (λ c. c.content) columns)
+kinds-of row [] [] k = refl
+kinds-of row [] (v ∷ vs) k = absurd k
+kinds-of row (c ∷ cs) [] k = absurd k
+kinds-of row (c ∷ cs) (v ∷ vs) k = rw (spelled-kind (kind_under c.content) k.0.bytes v k.0.holds.spells.plain, kinds-of row cs vs k.1) refl
 
--- the kind of a value is that of its column
-kind-there : (row : Fields) (column : Column) (content : Content) (v : Value) → HoldsUnder row column v → column.content ≡ content → kind_of v ≡ kind_under content
-kind-there row column content v k is = spelled-kind (kind_under column.content) k.bytes v k.holds.spells.plain ∙ ap kind_under is
+plain-kinds : (kinds : List Kind) → map kind_under (map Plain kinds) ≡ kinds
+plain-kinds [] = refl
+plain-kinds (k ∷ ks) = ap (λ others. k ∷ others) (plain-kinds ks)
 
 -- a claim has a family if and only if there is a column for it, and its fields have the kinds of
--- the plan's fields
-claim-by : (header row : Fields) (families : Bool) (family : Option (List ℕ)) (fields : List InputData) (columns : List Column) (claim : Claim)
-    → AreColumnsOf header (own_columns families ++ map (λ d. required_column d.name (Plain d.kind)) fields) columns
-    → AreValues row columns (Text claim.id ∷ after_family family (Text claim.member ∷ Day claim.service ∷ Number claim.billed ∷ claim.fields))
-    → (is_some family ≡ families) × (map kind_of claim.fields ≡ map (λ d. d.kind) fields)
-claim-by header row false family fields [] claim h k = absurd h
-claim-by header row false family fields (a ∷ []) claim h k = absurd h.1
-claim-by header row false family fields (a ∷ b ∷ []) claim h k = absurd h.1.1
-claim-by header row false family fields (a ∷ b ∷ c ∷ []) claim h k = absurd h.1.1.1
-claim-by header row false None fields (a ∷ b ∷ c ∷ d ∷ ds) claim h k = (refl, kinds-under header row fields ds claim.fields h.1.1.1.1 k.1.1.1.1)
-claim-by header row false (Some name) fields (a ∷ b ∷ c ∷ d ∷ ds) claim h k =
-    let clash : kinds.Text ≡ kinds.Day = kind-there row c (Plain kinds.Day) (Text claim.member) k.1.1.0 h.1.1.0.content in absurd (cc clash)
-claim-by header row true family fields [] claim h k = absurd h
-claim-by header row true family fields (a ∷ []) claim h k = absurd h.1
-claim-by header row true family fields (a ∷ b ∷ []) claim h k = absurd h.1.1
-claim-by header row true family fields (a ∷ b ∷ c ∷ []) claim h k = absurd h.1.1.1
-claim-by header row true family fields (a ∷ b ∷ c ∷ d ∷ []) claim h k = absurd h.1.1.1.1
-claim-by header row true None fields (a ∷ b ∷ c ∷ d ∷ e ∷ es) claim h k =
-    let clash : kinds.Day ≡ kinds.Text = kind-there row c Identifier (Day claim.service) k.1.1.0 h.1.1.0.content in absurd (cc clash)
-claim-by header row true (Some name) fields (a ∷ b ∷ c ∷ d ∷ e ∷ es) claim h k = (refl, kinds-under header row fields es claim.fields h.1.1.1.1.1 k.1.1.1.1.1)
+-- the columns of fields
+claim-by : (families : Bool) (family : Option (List ℕ)) (claim : Claim) (fields : List Kind)
+    → map kind_of (Text claim.id ∷ after_family family (Text claim.member ∷ Day claim.service ∷ Number claim.billed ∷ claim.fields)) ≡ map kind_under (claim_contents families fields)
+    → (is_some family ≡ families) × (map kind_of claim.fields ≡ fields)
+claim-by false None claim fields e = let others : map kind_of claim.fields ≡ map kind_under (map Plain fields) = cc e in (refl, others ∙ plain-kinds fields)
+claim-by false (Some name) claim fields e = absurd (cc e)
+claim-by true None claim fields e = absurd (cc e)
+claim-by true (Some name) claim fields e = let others : map kind_of claim.fields ≡ map kind_under (map Plain fields) = cc e in (refl, others ∙ plain-kinds fields)
 
 -- a claim in the required columns of a plan fits the plan
 pub claim-has : (header row : Fields) (names : List InputData) (families : Bool) (fields : List InputData) (columns : List Column) (claim : Claim) → names ≡ names_of families fields
@@ -88,6 +70,6 @@ pub claim-has : (header row : Fields) (names : List InputData) (families : Bool)
 claim-has header row names families fields columns claim is h k =
     let have : have_family names ≡ families = ap have_family is ∙ have_family-names families fields in
     let among : fields_among names ≡ fields = ap fields_among is ∙ fields-among families fields in
-    let own = subst (λ (b : Bool). AreColumnsOf header (own_columns b ++ map (λ d. required_column d.name (Plain d.kind)) (fields_among names)) columns) have h in
-    let all = subst (λ (fs : List InputData). AreColumnsOf header (own_columns families ++ map (λ d. required_column d.name (Plain d.kind)) fs) columns) among own in
-    claim-by header row families claim.family fields columns claim all k
+    let kinds = kinds-of row columns (claim_values claim) k ∙ ap (map kind_under) (claim-contents names header columns h) in
+    let (family, others) = claim-by (have_family names) claim.family claim (map (λ d. d.kind) (fields_among names)) kinds in
+    (family ∙ have, others ∙ ap (map (λ d. d.kind)) among)

@@ -1,17 +1,15 @@
 -- The entries of a file of balances, with one more.
-use Rattle.std.proofs.Common.{inl, inr, ◌≡◌, ◌≢◌, ◌<◌, ◌+◌, ◌-◌, ◌==◌, ◌&&◌, ◌+ℤ◌, ℕ, ℤ, Bool, true, false, subst, List, [], ◌∷◌, ◌++◌, length, take, drop, get_or, Option, Some, None, IsSome, Bor, Result, Ok, Err, OnOk, cond, if◌then◌else◌, refl, sym, ap, ◌∙◌, arith}
-use Rattle.std.specs.List.{All, AllZip, slice_get}
+use Rattle.std.proofs.Common.{inl, inr, ◌≡◌, ◌≢◌, ◌<◌, ◌+◌, ◌-◌, ◌==◌, ◌&&◌, ◌+ℤ◌, ℕ, ℤ, Bool, true, false, subst, List, [], ◌∷◌, ◌++◌, length, take, drop, Option, Some, None, IsSome, Bor, Result, Ok, Err, OnOk, cond, if◌then◌else◌, refl, sym, ap, ◌∙◌, arith}
+use Rattle.std.specs.List.{All, AllZip}
 use Rattle.std.specs.Option.{is_some, option_and_then, option_copied, unwrap_or}
 use Rattle.std.specs.Str.{bytes_eq}
 use Rattle.std.proofs.lemmas.Bool.{cases_Bool, false≢true}
 use Rattle.std.proofs.lemmas.Bool.Decides.{nat_tests}
 use Rattle.std.proofs.lemmas.Int.{ints}
-use Rattle.std.proofs.lemmas.List.{append-nil, length-map, take-append-drop}
+use Rattle.std.proofs.lemmas.List.{append-nil, take-append-drop}
 use Rattle.std.proofs.lemmas.List.Elements.{All-head, All-nil, All-push, All-tail}
 use Rattle.std.proofs.lemmas.List.Quantifiers.{Any-push, all_pairs_push}
-use Rattle.std.proofs.lemmas.Option.{slice_get-get_or}
 use Rattle.std.proofs.lemmas.Slice.Eq.{bytes_eq-Decides}
-use Rattle.dtable.specs.Plan.{has_families, has_years}
 use Rattle.settlement.specs.Accounts.{Account, is_family_year, is_same, part}
 use Rattle.settlement.specs.Accumulators.{AreInRange}
 use Rattle.settlement.specs.Amount.{is_in_range}
@@ -19,17 +17,16 @@ use Rattle.settlement.specs.declared.acc.Acc.{Acc}
 use Rattle.settlement.specs.declared.account.Balance.{Balance}
 use Rattle.settlement.specs.Opening.{joins, opening}
 use Rattle.intake_csv.specs.Records.{Fields}
-use Rattle.intake_csv.specs.Record.{family_contents}
-use Rattle.intake_csv.specs.Columns.{IsHeaderedFile, balance_columns, family_columns, year_columns}
+use Rattle.intake_csv.specs.Columns.{IsHeaderedFile, balance_columns}
 use Rattle.intake_csv.specs.FamilyYears.{HasJoined, Members, balance_in, begins, met_of, oop_of, refused_after}
-use Rattle.intake_csv.specs.Balances.{AreBalances, AreOnce, Book, Entry, Holder, HoldsEntries, IsBalanceLayout, IsEntry, IsRecordFault, JoinsIn, RefusesRecord, TakesEntry, accounts_of, balance_of, found_in, holder_of, is_holder, opening_with, refusal_cause, refusal_place, year_contents}
+use Rattle.intake_csv.specs.Balances.{AreBalanceColumns, AreBalances, AreOnce, Book, Entry, Holder, HoldsEntries, IsEntry, IsRecordFault, IsReportedAt, JoinsIn, RefusesRecord, TakesEntry, accounts_of, balance_of, found_in, holder_of, is_holder, opening_with, refusal_cause, refusal_of, refusal_place}
 use Rattle.intake_csv.specs.declared.column.Layout.{Layout}
 use Rattle.intake_csv.specs.declared.column.Column.{Column}
-use Rattle.intake_csv.specs.declared.column.Content.TheVariants.{Identifier, Money}
 use Rattle.intake_csv.specs.declared.family_year.Refusal.{Refusal}
 use Rattle.intake_csv.specs.declared.family_year.Refusal.TheVariants.{Again, Met, Oop}
 use Rattle.faults.specs.declared.file_fault.RowFault.{RowFault}
 use Rattle.intake_csv.proofs.Books.{begins_among, joined-house, joined-other, members_at, opened-books, year-self}
+use Rattle.intake_csv.proofs.EntryColumns.{columns-count}
 use Rattle.intake_csv.proofs.FamilyYears.{bytes-turned, lacking}
 use Rattle.intake_csv.proofs.Lists.{AllZip-grow, any-more, drop-after, next-at}
 use Rattle.intake_csv.proofs.Ranges.{begun-range, entry-amounts, free-sums, family_year-range}
@@ -256,15 +253,14 @@ copied-there None is b copied there = ap is_some (sym copied) ∙ there
 copied-there (Some members) is b copied there = ap is_some (sym copied) ∙ there
 
 -- the entries after one is added to a family and year with earlier balances
-pub put-joined : {U E : Type 0} (account : Account) (family name : List ℕ) (balance : Balance) (old new : List Book) (put : Result U E) → family ≡ account.family → name ≡ account.member
-    → AreOnce new → is_some (found_in old (holder_of account)) ≡ true
-    → option_and_then (λ ms. refused_after ms (balance_in ms account.member) balance) (found_in old (holder_of account)) ≡ None
-    → OnOk put (JoinsIn (family, account.year) name balance old new) → OnOk put ((front : List Entry) → HoldsEntries front old → HoldsEntries (front ++ (account, balance) ∷ []) new)
-put-joined account family name balance old new (Ok u) lives named once there free joined =
+pub put-joined : {U E : Type 0} (account : Account) (name : List ℕ) (balance : Balance) (old new : List Book) (put : Result U E) → name ≡ account.member → AreOnce new
+    → is_some (found_in old (holder_of account)) ≡ true → refusal_of old (account, balance) ≡ None → OnOk put (JoinsIn (holder_of account) name balance old new)
+    → OnOk put ((front : List Entry) → HoldsEntries front old → HoldsEntries (front ++ (account, balance) ∷ []) new)
+put-joined account name balance old new (Ok u) named once there free joined =
     let (before, is) = some-there (found_in old (holder_of account)) there in
     let absent = free-none (found_in old (holder_of account)) account.member balance free in
-    λ front h. holds-more front account balance old new once h absent (puts-joined account balance before old new is (rw (lives, named) at joined))
-put-joined account family name balance old new (Err e) lives named once there free joined = tt
+    λ front h. holds-more front account balance old new once h absent (puts-joined account balance before old new is (rw named at joined))
+put-joined account name balance old new (Err e) named once there free joined = tt
 
 -- the entries after one of a new family is added
 pub put-added : {U E : Type 0} (account : Account) (family name : List ℕ) (family_year : Members) (balance : Balance) (old room new : List Book) (put : Result U E)
@@ -308,25 +304,11 @@ found-says : (found : Option Members) (member : List ℕ) (balance : Balance) (r
 found-says None member balance refusal e = absurd (cc e)
 found-says (Some members) member balance refusal e = refusal-says members (balance_in members member) balance refusal e
 
-contents-count : (families years : Bool)
-    → length (family_contents families ++ Identifier ∷ (year_contents years ++ Money ∷ Money ∷ Money ∷ [])) ≡ length (family_columns families) + length (year_columns years) + 4
-contents-count false false = refl
-contents-count false true = refl
-contents-count true false = refl
-contents-count true true = refl
-
 -- each refusal is reported at a column of the layout
-pub reported-within : (version : ℕ) (layout : Layout) (refusal : Refusal) → IsBalanceLayout version layout → refusal_place version refusal < length layout.columns
-reported-within version layout refusal contents =
-    let count : length layout.columns ≡ length (family_columns (has_families version)) + length (year_columns (has_years version)) + 4 =
-    sym (length-map layout.columns (λ c. c.content)) ∙ ap length contents ∙ contents-count (has_families version) (has_years version) in
-    within refusal count
-  where
-    within : (r : Refusal) → length layout.columns ≡ length (family_columns (has_families version)) + length (year_columns (has_years version)) + 4
-        → refusal_place version r < length layout.columns
-    within Again count = omega (arith, count)
-    within Met count = omega (arith, count)
-    within Oop count = omega (arith, count)
+pub reported-within : (version : ℕ) (columns : List Column) (refusal : Refusal) → AreBalanceColumns version columns → refusal_place version refusal < length columns
+reported-within version columns Again is = omega (arith, columns-count version columns is)
+reported-within version columns Met is = omega (arith, columns-count version columns is)
+reported-within version columns Oop is = omega (arith, columns-count version columns is)
 
 -- the opening accumulators of a new entry's account
 opened-with : (front : List Entry) (balances : List Book) (entry : Entry) → HoldsEntries front balances → balance_of balances entry.0 ≡ None
@@ -340,54 +322,26 @@ opened-with front balances entry h absent =
 module _ (version : ℕ) where
   -- the fault of a record whose entry is refused after earlier ones
   module _ (layout : Layout) (front : List Entry) (balances : List Book) (fields : Fields) (entry : Entry) (fault : RowFault)
-      (contents : IsBalanceLayout version layout) (read : IsEntry version layout fields entry) (h : HoldsEntries front balances) where
+      (read : IsEntry version layout fields entry) (h : HoldsEntries front balances) where
     refuses-said : (refusal : Refusal) → Says (members_at balances (holder_of entry.0)) (balance_of balances entry.0) entry.1 refusal
-        → ((column : Column) → slice_get layout.columns (refusal_place version refusal) ≡ Some column → fault ≡ record { column = column.place + 1; cause = refusal_cause refusal })
-        → IsRecordFault version layout front fields fault
-    refuses-said Again known reported =
-        let d : Column = record { place = 0; content = Identifier } in
-        let located = slice_get-get_or layout.columns (refusal_place version Again) d (reported-within version layout Again contents) in
-        let column = get_or layout.columns (refusal_place version Again) d in
-        inr (inl (record { entry = entry; read = read; again = h.found entry.0 known; reported = record { column = column; located = located; fault_is = reported column located } }))
+        → IsReportedAt layout (refusal_place version refusal) (refusal_cause refusal) fault → IsRecordFault version layout front fields fault
+    refuses-said Again known reported = inr (inl (record { entry = entry; read = read; again = h.found entry.0 known; reported = reported }))
     refuses-said Met (absent, beyond) reported =
-        let d : Column = record { place = 0; content = Identifier } in
-        let located = slice_get-get_or layout.columns (refusal_place version Met) d (reported-within version layout Met contents) in
-        let column = get_or layout.columns (refusal_place version Met) d in
         let met = ap (λ (acc : Acc). is_in_range acc.fmet) (opened-with front balances entry h absent) in
-        inr (inr (record {
-          entry = entry;
-          read = read;
-          new = h.lacking entry.0 absent;
-          place = refusal_place version Met;
-          sum = inl (met ∙ beyond, refl);
-          reported = record { column = column; located = located; fault_is = reported column located };
-        }))
+        inr (inr (record { entry = entry; read = read; new = h.lacking entry.0 absent; place = refusal_place version Met; sum = inl (met ∙ beyond, refl); reported = reported }))
     refuses-said Oop (absent, within, beyond) reported =
-        let d : Column = record { place = 0; content = Identifier } in
-        let located = slice_get-get_or layout.columns (refusal_place version Oop) d (reported-within version layout Oop contents) in
-        let column = get_or layout.columns (refusal_place version Oop) d in
         let met = ap (λ (acc : Acc). is_in_range acc.fmet) (opened-with front balances entry h absent) in
         let oop = ap (λ (acc : Acc). is_in_range acc.foop) (opened-with front balances entry h absent) in
-        inr (inr (record {
-          entry = entry;
-          read = read;
-          new = h.lacking entry.0 absent;
-          place = refusal_place version Oop;
-          sum = inr (met ∙ within, oop ∙ beyond, refl);
-          reported = record { column = column; located = located; fault_is = reported column located };
-        }))
+        inr (inr (record { entry = entry; read = read; new = h.lacking entry.0 absent; place = refusal_place version Oop; sum = inr (met ∙ within, oop ∙ beyond, refl); reported = reported }))
 
-  pub refuses-entry : (layout : Layout) (fields : Fields) (entry : Entry) (refusal : Refusal) (balances : List Book) (fault : RowFault)
-      → IsBalanceLayout version layout → IsEntry version layout fields entry
-      → option_and_then (λ ms. refused_after ms (balance_in ms entry.0.member) entry.1) (found_in balances (holder_of entry.0)) ≡ Some refusal
-      → ((column : Column) → slice_get layout.columns (refusal_place version refusal) ≡ Some column → fault ≡ record { column = column.place + 1; cause = refusal_cause refusal })
+  pub refuses-entry : (layout : Layout) (fields : Fields) (entry : Entry) (refusal : Refusal) (balances : List Book) (fault : RowFault) → IsEntry version layout fields entry
+      → refusal_of balances entry ≡ Some refusal → IsReportedAt layout (refusal_place version refusal) (refusal_cause refusal) fault
       → (front : List Entry) → HoldsEntries front balances → IsRecordFault version layout front fields fault
-  refuses-entry layout fields entry refusal balances fault contents read refused reported front h =
-      refuses-said layout front balances fields entry fault contents read h refusal (found-says (found_in balances (holder_of entry.0)) entry.0.member entry.1 refusal refused) reported
+  refuses-entry layout fields entry refusal balances fault read refused reported front h =
+      refuses-said layout front balances fields entry fault read h refusal (found-says (found_in balances (holder_of entry.0)) entry.0.member entry.1 refusal refused) reported
 
   -- the opening accumulators of the account of an entry that is not refused are in range
-  pub takes-entry : (layout : Layout) (fields : Fields) (entry : Entry) (old new : List Book) → IsEntry version layout fields entry
-      → option_and_then (λ ms. refused_after ms (balance_in ms entry.0.member) entry.1) (found_in old (holder_of entry.0)) ≡ None
+  pub takes-entry : (layout : Layout) (fields : Fields) (entry : Entry) (old new : List Book) → IsEntry version layout fields entry → refusal_of old entry ≡ None
       → ((front : List Entry) → HoldsEntries front old → HoldsEntries (front ++ entry ∷ []) new)
       → (front : List Entry) → HoldsEntries front old → TakesEntry version layout front fields new
   takes-entry layout fields entry old new read free put front h =

@@ -4,6 +4,7 @@ pub mod AllRecords
 pub mod Headers
 pub mod RecordSteps
 pub mod Shapes
+pub mod EntryColumns
 pub mod Handing
 pub mod Books
 pub mod Ranges

@@ -2,7 +2,7 @@
 use Rattle.std.proofs.Common.{◌≡◌, ◌+◌, ℕ, List, [], ◌∷◌, refl, sym, ap, ◌∙◌, arith}
 use Rattle.fixpoint.specs.NumberText.{DenotesAtMostOne}
 use Rattle.feel_tests.specs.Plain.{SpellsOnePlain}
-use Rattle.dtable.specs.Plan.{IsPlan, PlanParts}
+use Rattle.tables.specs.Plan.{IsPlan, PlanParts}
 use Rattle.intake_csv.specs.Columns.{claim_columns}
 use Rattle.intake_csv.specs.Laws.{LieApart}
 use Rattle.intake_csv.specs.Records.{Fields}

@@ -3,9 +3,9 @@
 use Rattle.std.proofs.Common.{◌≡◌, ℕ, Bool, true, false, List, [], ◌∷◌, ◌++◌, map, refl, sym, ap, subst, ◌∙◌, arith, append_assoc}
 use Rattle.std.specs.List.{flat_map}
 use Rattle.std.proofs.lemmas.List.{get_or-map, get_or_append_left, length-append, length-map, map-append}
-use Rattle.dtable.specs.declared.table.InputData.{InputData}
-use Rattle.dtable.specs.Names.{accumulator_names, claim_names}
-use Rattle.dtable.specs.Plan.{AreDistinct, IsPlan, PlanParts, keeps_families, plan_names}
+use Rattle.tables.specs.declared.table.InputData.{InputData}
+use Rattle.tables.specs.Names.{accumulator_names, claim_names}
+use Rattle.tables.specs.Plan.{AreDistinct, IsPlan, PlanParts, keeps_families, plan_names}
 use Rattle.intake_csv.specs.Columns.{AreColumnsOf, claim_columns, fields_among, have_family, required_column, own_columns}
 use Rattle.intake_csv.specs.Laws.{LieApart}
 use Rattle.intake_csv.specs.Records.{Fields}
@@ -46,6 +46,10 @@ titles families names fields have among =
     ∙ map-append (λ c. c.name) (own_columns families) (of fields) ∙ ap (λ ns. ns ++ map (λ c. c.name) (of fields)) (own_titles families)
     ∙ ap (λ ns. map (λ d. d.name) (claim_names families) ++ ns) (field_names fields)
 
+-- the plan keeps accumulators for families if its second name is `family`
+pub family-kept : (plan : PlanParts) → IsPlan plan → have_family plan.names ≡ keeps_families plan
+family-kept plan is = ap have_family is.names ∙ have_family-names (keeps_families plan) is.fields
+
 columns-distinct : (plan : PlanParts) → IsPlan plan → HaveDistinctNames (claim_columns plan.names)
 columns-distinct plan is =
     let families = keeps_families plan in
@@ -57,7 +61,7 @@ columns-distinct plan is =
     ap (map (λ d. d.name)) is.names ∙ map-append (λ d. d.name) (claim_names families) (is.fields ++ accumulator_names families)
     ∙ ap (λ ns. own ++ ns) (map-append (λ d. d.name) is.fields (accumulator_names families)) ∙ sym (append_assoc own fields accumulators) in
     let all : plan_names plan ≡ (own ++ fields) ++ (accumulators ++ outputs) = ap (λ ns. ns ++ outputs) names ∙ append_assoc (own ++ fields) accumulators outputs in
-    let have : have_family plan.names ≡ families = ap have_family is.names ∙ have_family-names families is.fields in
+    let have : have_family plan.names ≡ families = family-kept plan is in
     let among : fields_among plan.names ≡ is.fields = ap fields_among is.names ∙ fields-among families is.fields in
     titles-distinct (claim_columns plan.names)
     (subst AreDistinct (sym (titles families plan.names is.fields have among)) (distinct-front (own ++ fields) (accumulators ++ outputs) (subst AreDistinct all is.distinct)))

@@ -1,28 +1,29 @@
 -- The opening accumulators of an account stay in range with one more balance.
-use Rattle.std.proofs.Common.{◌≡◌, ◌≤◌, ◌+ℤ◌, ◌&&◌, ℕ, ℤ, pos, Bool, true, false, unsigned_abs, subst, List, [], ◌∷◌, ◌++◌, Option, Some, None, if◌then◌else◌, refl, sym, ap, ap₂, ◌∙◌, arith}
+use Rattle.std.proofs.Common.{◌≡◌, ◌≤◌, ◌+ℤ◌, ℕ, ℤ, pos, Bool, true, false, unsigned_abs, subst, List, [], ◌∷◌, ◌++◌, Option, Some, None, if◌then◌else◌, refl, ap, ap₂, ◌∙◌, arith}
+use Rattle.std.specs.List.{All}
 use Rattle.std.specs.Option.{option_and_then, unwrap_or}
 use Rattle.std.proofs.lemmas.Bool.{and_parts}
 use Rattle.std.proofs.lemmas.Bool.Decides.{nat_tests}
 use Rattle.std.proofs.lemmas.Int.{ints}
 use Rattle.fixpoint.specs.Number.{greatest_units}
 use Rattle.feel_tests.specs.declared.value.Value.{Value}
-use Rattle.feel_tests.specs.declared.value.Value.TheVariants.{Number, Text}
-use Rattle.dtable.specs.Plan.{has_families, has_years}
+use Rattle.feel_tests.specs.declared.value.Value.TheVariants.{Number, Text, Flag, Day}
+use Rattle.tables.specs.Plan.{has_families, has_years}
 use Rattle.settlement.specs.Accounts.{Account, is_family_year, part}
-use Rattle.settlement.specs.Accumulators.{AreInRange, are_in_range}
+use Rattle.settlement.specs.Accumulators.{AreInRange}
 use Rattle.settlement.specs.Amount.{is_in_range}
 use Rattle.settlement.specs.Bindings.{after_family}
 use Rattle.settlement.specs.Opening.{joins, opening}
 use Rattle.settlement.specs.declared.acc.Acc.{Acc}
 use Rattle.settlement.specs.declared.account.Balance.{Balance}
 use Rattle.intake_csv.specs.Records.{Fields}
-use Rattle.intake_csv.specs.Rows.{AreValues, HoldsUnder}
+use Rattle.intake_csv.specs.Rows.{HoldsUnder}
 use Rattle.intake_csv.specs.FamilyYears.{Members, balance_in, begins, met_of, oop_of, refused_after}
 use Rattle.intake_csv.specs.Balances.{Entry, Holder, IsEntry, balance_values, entry_values, family_in, holder_of, is_holder, year_values}
 use Rattle.intake_csv.specs.declared.column.Column.{Column}
 use Rattle.intake_csv.specs.declared.column.Layout.{Layout}
-use Rattle.intake_csv.specs.declared.family_year.Refusal.{Refusal}
 use Rattle.intake_csv.specs.declared.family_year.Refusal.TheVariants.{Met, Oop}
+use Rattle.intake_csv.proofs.Lists.{All-from_zip}
 
 -- the amounts of a balance are in range
 pub record AmountsInRange (balance : Balance) : Type 0 where
@@ -30,52 +31,31 @@ pub record AmountsInRange (balance : Balance) : Type 0 where
   pub oop : is_in_range balance.oop ≡ true
   pub paid : is_in_range balance.paid ≡ true
 
--- a number in a record is in range
-number-held : (fields : Fields) (column : Column) (units : ℤ) → HoldsUnder fields column (Number units) → is_in_range units ≡ true
-number-held fields column units h =
+-- the value is in range if it is a number
+abbrev IsValueInRange : Value → Type 0
+IsValueInRange (Number units) = is_in_range units ≡ true
+IsValueInRange _ = Unit {0}
+
+value-held : (fields : Fields) (column : Column) (value : Value) → HoldsUnder fields column value → IsValueInRange value
+value-held fields column (Number units) h =
     let within : unsigned_abs units ≤ greatest_units = h.holds.spells.plain.1.in_range in
     grind (arith, nat_tests)
+value-held fields column (Text text) h = tt
+value-held fields column (Flag flag) h = tt
+value-held fields column (Day day) h = tt
 
--- the values after the first one
-values-following : (fields : Fields) (columns : List Column) (value : Value) (values : List Value) → AreValues fields columns (value ∷ values)
-    → (rest : List Column) × AreValues fields rest values
-values-following fields [] value values h = absurd h
-values-following fields (c ∷ cs) value values h = (cs, h.1)
-
-amounts-held : (fields : Fields) (columns : List Column) (balance : Balance) → AreValues fields columns (balance_values balance) → AmountsInRange balance
-amounts-held fields [] balance h = absurd h
-amounts-held fields (a ∷ []) balance h = absurd h.1
-amounts-held fields (a ∷ b ∷ []) balance h = absurd h.1.1
-amounts-held fields (a ∷ b ∷ c ∷ cs) balance h = record {
-  met = number-held fields a balance.met h.0;
-  oop = number-held fields b balance.oop h.1.0;
-  paid = number-held fields c balance.paid h.1.1.0;
-}
-
-following-year : (years : Bool) (fields : Fields) (columns : List Column) (year : ℕ) (balance : Balance) → AreValues fields columns (year_values years year ++ balance_values balance)
-    → AmountsInRange balance
-following-year false fields columns year balance h = amounts-held fields columns balance h
-following-year true fields columns year balance h =
-    let (rest, held) = values-following fields columns _ (balance_values balance) h in
-    amounts-held fields rest balance held
-
-following-member : (years : Bool) (fields : Fields) (columns : List Column) (account : Account) (balance : Balance)
-    → AreValues fields columns (Text account.member ∷ (year_values years account.year ++ balance_values balance)) → AmountsInRange balance
-following-member years fields columns account balance h =
-    let (rest, held) = values-following fields columns (Text account.member) (year_values years account.year ++ balance_values balance) h in
-    following-year years fields rest account.year balance held
-
-following-all : (families years : Bool) (fields : Fields) (columns : List Column) (account : Account) (balance : Balance)
-    → AreValues fields columns (after_family (family_in families account) (Text account.member ∷ (year_values years account.year ++ balance_values balance))) → AmountsInRange balance
-following-all false years fields columns account balance h = following-member years fields columns account balance h
-following-all true years fields columns account balance h =
-    let (rest, held) = values-following fields columns (Text account.family) (Text account.member ∷ (year_values years account.year ++ balance_values balance)) h in
-    following-member years fields rest account balance held
+amounts-among : (families years : Bool) (account : Account) (balance : Balance)
+    → All IsValueInRange (after_family (family_in families account) (Text account.member ∷ (year_values years account.year ++ balance_values balance))) → AmountsInRange balance
+amounts-among false false account balance all = record { met = all 1 (Text []) (omega arith); oop = all 2 (Text []) (omega arith); paid = all 3 (Text []) (omega arith) }
+amounts-among false true account balance all = record { met = all 2 (Text []) (omega arith); oop = all 3 (Text []) (omega arith); paid = all 4 (Text []) (omega arith) }
+amounts-among true false account balance all = record { met = all 2 (Text []) (omega arith); oop = all 3 (Text []) (omega arith); paid = all 4 (Text []) (omega arith) }
+amounts-among true true account balance all = record { met = all 3 (Text []) (omega arith); oop = all 4 (Text []) (omega arith); paid = all 5 (Text []) (omega arith) }
 
 -- the amounts of an entry in a record are in range
 pub entry-amounts : (version : ℕ) (layout : Layout) (fields : Fields) (entry : Entry) → IsEntry version layout fields entry → AmountsInRange entry.1
 entry-amounts version layout fields entry read =
-    following-all (has_families version) (has_years version) fields layout.columns entry.0 entry.1 read.values.1
+    amounts-among (has_families version) (has_years version) entry.0 entry.1
+    (All-from_zip (HoldsUnder fields) IsValueInRange (λ column value held. value-held fields column value held) layout.columns (entry_values version entry) read.values.1)
 
 -- the sums over the members and one more balance are in range
 pub record SumsInRange (members : Members) (balance : Balance) : Type 0 where

@@ -1,23 +1,21 @@
 -- No record lacks a row: it is a claim, or it has a first fault.
-use Rattle.std.proofs.Common.{inl, inr, ◌≡◌, ◌<◌, ◌≤◌, ◌≤ℤ◌, ◌+◌, ◌⊎◌, ℕ, ℤ, pos, suc, Bool, true, false, List, [], ◌∷◌, ◌++◌, length, map, get_or, Some, None, refl, sym, ap, ◌∙◌, arith}
+use Rattle.std.proofs.Common.{inl, inr, ◌≡◌, ◌<◌, ◌≤◌, ◌≤ℤ◌, ◌+◌, ◌⊎◌, ℕ, ℤ, pos, suc, false, List, [], ◌∷◌, ◌++◌, length, map, get_or, Some, refl, sym, ap, ◌∙◌, arith}
 use Rattle.std.specs.List.{All, Any, count_by, slice_get}
 use Rattle.std.proofs.lemmas.Bool.{cases_Bool, cases_eq, cases_lt}
 use Rattle.std.proofs.lemmas.Int.{ints}
 use Rattle.std.proofs.lemmas.List.Elements.{All-cons, All-nil, All-weaker}
 use Rattle.csv.specs.Records.{field_at}
-use Rattle.faults.specs.BuiltInNames.{member_name, service_name, billed_name}
 use Rattle.fixpoint.specs.Number.{is_negative}
 use Rattle.feel_tests.specs.TextBytes.{IsText}
-use Rattle.feel_tests.specs.declared.kind.Kind.TheVariants as kinds
+use Rattle.feel_tests.specs.declared.kind.Kind.{Kind}
 use Rattle.feel_tests.specs.declared.text.TheConstants.{TEXT_LIMIT_BYTES}
 use Rattle.feel_tests.specs.declared.value.Value.{Value}
 use Rattle.feel_tests.specs.declared.value.Value.TheVariants.{Number, Text, Flag, Day}
-use Rattle.dtable.specs.declared.table.InputData.{InputData}
-use Rattle.settlement.specs.declared.claim.Claim.{Claim}
+use Rattle.tables.specs.declared.table.InputData.{InputData}
 use Rattle.intake_csv.specs.Records.{Fields}
-use Rattle.intake_csv.specs.Columns.{AreColumnsOf, IsHeaderedFile, claim_columns, fields_among, have_family, required_column, own_columns}
+use Rattle.intake_csv.specs.Columns.{AreColumnsOf, IsHeaderedFile, claim_columns, fields_among, have_family}
 use Rattle.intake_csv.specs.Fields.{Holds, IsFaultless, IsFaulty, Spells}
-use Rattle.intake_csv.specs.Rows.{AreRows, AreValues, HoldsUnder, IsFaultlessUnder, IsFaultyUnder, IsFirstFault, IsRow, claim_values, claims_in, field_count, is_claim}
+use Rattle.intake_csv.specs.Rows.{AreRows, AreValues, HoldsUnder, IsFaultlessUnder, IsFaultyUnder, IsFirstFault, IsRow, claims_in, field_count, is_claim}
 use Rattle.intake_csv.specs.declared.column.Column.{Column}
 use Rattle.intake_csv.specs.declared.column.Content.{Content}
 use Rattle.intake_csv.specs.declared.column.Content.TheVariants.{Identifier, Money, Plain, Year}
@@ -31,7 +29,7 @@ use Rattle.intake_csv.specs.declared.rows.Row.TheVariants.{Good, Bad}
 use Rattle.intake_csv.specs.Laws.{RowsOf}
 use Rattle.intake_csv.proofs.Handing.{count-row}
 use Rattle.intake_csv.proofs.Lists.{field_at-get_or, field_at-within}
-use Rattle.intake_csv.proofs.Shapes.{day_value, money_value, text_value}
+use Rattle.intake_csv.proofs.Shapes.{claim-contents, claim-shaped}
 
 not_negative : (units : ℤ) → is_negative units ≡ false → pos 0 ≤ℤ units
 not_negative (ℤ.pos n) e = omega (arith, ints)
@@ -150,63 +148,6 @@ module _ (fields : Fields) where
       let e = field_at-within fields c.place (omega (arith, within, same)) in
       field c.content bytes (λ f. all_columns header ns cs h.1 same (λ all. k (join c cs (under_field c bytes e f) all)))
 
-three : (w x y b c d : Value) (ys : List Value) → w ≡ b → x ≡ c → y ≡ d → b ∷ c ∷ d ∷ ys ≡ w ∷ x ∷ y ∷ ys
-three w x y b c d ys f g h = rw (f, g, h) refl
-
--- the values begin with a member, a date of service and a billed amount
-record AreAfter (vs : List Value) : Type 0 where
-  pub member : List ℕ
-  pub service : ℤ
-  pub billed : ℤ
-  pub fields : List Value
-  pub values : Text member ∷ Day service ∷ Number billed ∷ fields ≡ vs
-
-following-of : (header row : Fields) (more : List RequiredColumn) (columns : List Column) (vs : List Value)
-    → AreColumnsOf header (required_column member_name Identifier ∷ required_column service_name (Plain kinds.Day) ∷ required_column billed_name Money ∷ more) columns → AreValues row columns vs
-    → AreAfter vs
-following-of header row more [] vs h values = absurd h
-following-of header row more (b ∷ []) vs h values = absurd h.1
-following-of header row more (b ∷ c ∷ []) vs h values = absurd h.1.1
-following-of header row more (b ∷ c ∷ d ∷ ds) [] h values = absurd values
-following-of header row more (b ∷ c ∷ d ∷ ds) (w ∷ []) h values = absurd values.1
-following-of header row more (b ∷ c ∷ d ∷ ds) (w ∷ x ∷ []) h values = absurd values.1.1
-following-of header row more (b ∷ c ∷ d ∷ ds) (w ∷ x ∷ y ∷ ys) h values =
-    let (member, is_member) = text_value b.content values.0.bytes w h.0.content values.0.holds in
-    let (day, is_day) = day_value c.content values.1.0.bytes x h.1.0.content values.1.0.holds in
-    let (units, is_units, money) = money_value d.content values.1.1.0.bytes y h.1.1.0.content values.1.1.0.holds in
-    record { member = member; service = day; billed = units; fields = ys; values = three w x y (Text member) (Day day) (Number units) ys is_member is_day is_units }
-
--- the values in the columns of a claim file are those of a claim
-record ClaimOf (vs : List Value) : Type 0 where
-  pub claim : Claim
-  pub values : claim_values claim ≡ vs
-
-claim-by : (header row : Fields) (families : Bool) (more : List RequiredColumn) (columns : List Column) (vs : List Value) → AreColumnsOf header (own_columns families ++ more) columns
-    → AreValues row columns vs → ClaimOf vs
-claim-by header row families more [] vs h values = absurd h
-claim-by header row families more (a ∷ columns) [] h values = absurd values
-claim-by header row false more (a ∷ columns) (v ∷ vs) h values =
-    let (id, is_id) = text_value a.content values.0.bytes v h.0.content values.0.holds in
-    let b = following-of header row more columns vs h.1 values.1 in
-    record {
-      claim = record { id = id; family = None; member = b.member; service = b.service; billed = b.billed; fields = b.fields };
-      values = ap (λ ws. Text id ∷ ws) b.values ∙ ap (λ w. w ∷ vs) (sym is_id);
-    }
-claim-by header row true more (a ∷ []) (v ∷ vs) h values = absurd h.1
-claim-by header row true more (a ∷ b ∷ columns) (v ∷ []) h values = absurd values.1
-claim-by header row true more (a ∷ b ∷ columns) (v ∷ w ∷ vs) h values =
-    let (id, is_id) = text_value a.content values.0.bytes v h.0.content values.0.holds in
-    let (family, is_family) = text_value b.content values.1.0.bytes w h.1.0.content values.1.0.holds in
-    let b = following-of header row more columns vs h.1.1 values.1.1 in
-    record {
-      claim = record { id = id; family = Some family; member = b.member; service = b.service; billed = b.billed; fields = b.fields };
-      values = ap (λ xs. Text id ∷ Text family ∷ xs) b.values ∙ ap (λ x. Text id ∷ x ∷ vs) (sym is_family) ∙ ap (λ x. x ∷ w ∷ vs) (sym is_id);
-    }
-
-claim-of : (header row : Fields) (names : List InputData) (columns : List Column) (vs : List Value) → AreColumnsOf header (claim_columns names) columns
-    → AreValues row columns vs → ClaimOf vs
-claim-of header row names columns vs h values = claim-by header row (have_family names) (map (λ d. required_column d.name (Plain d.kind)) (fields_among names)) columns vs h values
-
 -- the header of a claim file determines the contents of the columns
 record HasColumns (names : List InputData) (layout : Layout) : Type 0 where
   pub header : Fields
@@ -221,8 +162,9 @@ record RowOf (layout : Layout) (number place : ℕ) (fields : Fields) : Type 0 w
 row_by : (names : List InputData) (layout : Layout) (number place : ℕ) (fields : Fields) → HasColumns names layout → length fields ≡ layout.width → AllOf fields layout.columns
     → RowOf layout number place fields
 row_by names layout number place fields h same (inl (vs, values, nones)) =
-    let made = claim-of h.header fields names layout.columns vs h.columns values in
-    record { row = Good number place made.claim; is = (refl, refl, (same, rw made.values values)) }
+    let kinds : List Kind = map (λ d. d.kind) (fields_among names) in
+    let made = claim-shaped (have_family names) fields layout.columns vs kinds (claim-contents names h.header layout.columns h.columns) values in
+    record { row = Good number place made.claim; is = (refl, refl, (same, rw made.values_are at values)) }
 row_by names layout number place fields h same (inr (f, first)) = record { row = Bad number f; is = (refl, inr (same, first)) }
 
 some_row : (names : List InputData) (layout : Layout) (number place : ℕ) (fields : Fields) → HasColumns names layout → ¬ ¬ RowOf layout number place fields

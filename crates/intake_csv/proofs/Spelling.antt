@@ -1,12 +1,12 @@
 -- The value that a field denotes in a column other than one of money.
-use Rattle.std.proofs.Common.{◌≡◌, ◌≢◌, ℕ, List, [], refl, arith}
-use Rattle.feel_tests.specs.Calendar.{IsYearText}
+use Rattle.std.proofs.Common.{◌≡◌, ◌≢◌, ℕ, List, [], refl, sym, arith}
+use Rattle.feel_tests.specs.Calendar.{IsYearText, year_text}
 use Rattle.feel_tests.specs.Plain.{RefusesPlain, SpellsPlain}
 use Rattle.feel_tests.specs.TextBytes.{IsText}
 use Rattle.feel_tests.specs.declared.kind.Kind.{Kind}
-use Rattle.feel_tests.specs.declared.kind.Kind.TheVariants as kinds
 use Rattle.feel_tests.specs.declared.plain.PlainFault.TheVariants.{Bad}
 use Rattle.feel_tests.specs.declared.value.Value.{Value}
+use Rattle.feel_tests.specs.declared.value.Value.TheVariants.{Text}
 use Rattle.intake_csv.specs.Columns.{kind_under}
 use Rattle.intake_csv.specs.Fields.{Holds, IsFaultless, IsFaulty, Spells}
 use Rattle.intake_csv.specs.declared.column.Content.{Content}
@@ -26,19 +26,22 @@ faultless content bytes v text spells named other FieldCount h = h
 faultless content bytes v text spells named other Repeated h = h
 faultless content bytes v text spells named other Sum h = h
 
-pub identifier_read : (bytes : List ℕ) (v : Value) → IsText bytes → bytes ≢ [] → SpellsPlain kinds.Text bytes v → Holds Identifier bytes v × IsFaultless Identifier bytes
-identifier_read bytes v text some plain =
-    let spells : Spells Identifier bytes v = record { plain = plain; year = λ e. cc e } in
-    (record { text = text; spells = spells; allowed = some }, faultless Identifier bytes v text spells (λ empty. some empty.1) (λ e. cc e))
+-- a text that is not empty is an identifier
+pub identifier_read : (bytes : List ℕ) → IsText bytes → bytes ≢ [] → Holds Identifier bytes (Text bytes) × IsFaultless Identifier bytes
+identifier_read bytes text some =
+    let spells : Spells Identifier bytes (Text bytes) = record { plain = (refl, refl, text.1); year = λ e. cc e } in
+    (record { text = text; spells = spells; allowed = some }, faultless Identifier bytes (Text bytes) text spells (λ empty. some empty.1) (λ e. cc e))
 
 pub plain_read : (kind : Kind) (bytes : List ℕ) (v : Value) → IsText bytes → SpellsPlain kind bytes v → Holds (Plain kind) bytes v × IsFaultless (Plain kind) bytes
 plain_read kind bytes v text plain =
     let spells : Spells (Plain kind) bytes v = record { plain = plain; year = λ e. cc e } in
     (record { text = text; spells = spells; allowed = tt }, faultless (Plain kind) bytes v text spells (λ empty. cc empty.0) (λ e. cc e))
 
-pub year_read : (bytes : List ℕ) (v : Value) (year : ℕ) → IsText bytes → IsYearText bytes year → SpellsPlain kinds.Text bytes v → Holds Year bytes v × IsFaultless Year bytes
-year_read bytes v year text is plain =
-    let spells : Spells Year bytes v = record { plain = plain; year = λ e. (year, is) } in
+-- the text of a year
+pub year_read : (bytes : List ℕ) (year : ℕ) → IsText bytes → IsYearText bytes year → Holds Year bytes (Text (year_text year)) × IsFaultless Year bytes
+year_read bytes year text is =
+    let v : Value = Text (year_text year) in
+    let spells : Spells Year bytes v = record { plain = (refl, sym is.spelled, text.1); year = λ e. (year, is) } in
     (record { text = text; spells = spells; allowed = tt }, faultless Year bytes v text spells (λ empty. cc empty.0) (λ e. cc e))
 
 -- a field that is refused, for another reason than memory, denotes no value of the kind

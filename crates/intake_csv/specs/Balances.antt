@@ -10,7 +10,7 @@ use Rattle.std.specs.declared.string.String.{String}
 use Rattle.feel_tests.specs.Calendar.{year_text}
 use Rattle.feel_tests.specs.declared.value.Value.{Value}
 use Rattle.feel_tests.specs.declared.value.Value.TheVariants.{Number, Text}
-use Rattle.dtable.specs.Plan.{has_families, has_years}
+use Rattle.tables.specs.Plan.{has_families, has_years}
 use Rattle.settlement.specs.Accounts.{Account}
 use Rattle.settlement.specs.Accumulators.{AreInRange}
 use Rattle.settlement.specs.Amount.{is_in_range}
@@ -20,13 +20,10 @@ use Rattle.settlement.specs.declared.acc.Acc.{Acc}
 use Rattle.settlement.specs.declared.account.Balance.{Balance}
 use Rattle.intake_csv.specs.Records.{Fields}
 use Rattle.intake_csv.specs.Columns.{IsHeaderedFile, HasFileFault, balance_columns, member_place, met_place, oop_place}
-use Rattle.intake_csv.specs.FamilyYears.{AreOnceBy, HasJoined, Members, balance_in}
-use Rattle.intake_csv.specs.Record.{family_contents}
-use Rattle.intake_csv.specs.Rows.{HasValues, HasFault}
-use Rattle.fixpoint.specs.Money.{IsMoney}
-use Rattle.intake_csv.specs.declared.column.Content.{Content}
-use Rattle.intake_csv.specs.declared.column.Content.TheVariants.{Identifier, Money, Year}
+use Rattle.intake_csv.specs.FamilyYears.{AreOnceBy, HasJoined, Members, balance_in, refused_after}
+use Rattle.intake_csv.specs.Rows.{HasFault, HasValues, HoldsUnder}
 use Rattle.intake_csv.specs.declared.column.Layout.{Layout}
+use Rattle.intake_csv.specs.declared.entry.Entry.{Entry as ReadEntry}
 use Rattle.intake_csv.specs.declared.column.Column.{Column}
 use Rattle.faults.specs.declared.file_fault.FileFault.TheVariants as file
 use Rattle.faults.specs.declared.file_fault.RowFault.{RowFault}
@@ -238,6 +235,10 @@ pub record JoinsIn (holder : Holder) (member : List ℕ) (balance : Balance) (ol
   pub own : (before : Members) → found_in old holder ≡ Some before → Joins holder member balance before new
   pub others : (other : Holder) → is_holder holder other ≡ false → found_in new other ≡ found_in old other
 
+-- the refusal of an entry by the earlier ones, if it is refused
+abbrev pub refusal_of : List Book → Entry → Option Refusal
+refusal_of books entry = option_and_then (λ members. refused_after members (balance_in members entry.0.member) entry.1) (found_in books (holder_of entry.0))
+
 -- the place of the column at which the refusal of an entry is reported, under a plan of this
 -- version
 abbrev pub refusal_place : ℕ → Refusal → ℕ
@@ -250,42 +251,30 @@ abbrev pub refusal_cause : Refusal → RowCause
 refusal_cause Again = Repeated
 refusal_cause _ = Sum
 
--- the content of the year's column, if there is one
-abbrev pub year_contents : Bool → List Content
-year_contents true = Year ∷ []
-year_contents false = []
+-- the columns have the contents of a file of balances
+abbrev pub AreBalanceColumns : ℕ → List Column → Type 0
+AreBalanceColumns version columns = map (λ c. c.content) columns ≡ map (λ n. n.content) (balance_columns version)
 
--- the layout is that of a file of balances
-abbrev pub IsBalanceLayout : ℕ → Layout → Type 0
-IsBalanceLayout version layout =
-    map (λ c. c.content) layout.columns
-    ≡ family_contents (has_families version) ++ Identifier ∷ (year_contents (has_years version) ++ Money ∷ Money ∷ Money ∷ [])
+-- the entry that was read
+abbrev pub entry_of : ReadEntry → Entry
+entry_of read = (record { family = read.family.now; member = read.member.now; year = read.year }, read.balance)
 
--- the values are three amounts of money
-pub record AreAmounts (values : List Value) : Type 0 where
-  pub balance : Balance
-  pub values_are : values ≡ balance_values balance
-  pub met_money : IsMoney balance.met
-  pub oop_money : IsMoney balance.oop
-  pub paid_money : IsMoney balance.paid
+-- the column with this place among the required ones has the value
+abbrev pub HoldsAt : Fields → List Column → ℕ → Value → Type 0
+HoldsAt fields columns place value = (column : Column) → slice_get columns place ≡ Some column → HoldsUnder fields column value
 
--- the values have the kinds of an entry's values: a family if there is a column for it, a member, a
--- year if there is a column for it, and three amounts
-pub record IsEntryShaped (version : ℕ) (values : List Value) : Type 0 where
-  pub family : Option (List ℕ)
-  pub has_family : is_some family ≡ has_families version
-  pub member : List ℕ
-  pub year : ℕ
-  pub amounts : List Value
-  pub values_are : values ≡ after_family family (Text member ∷ (year_values (has_years version) year ++ amounts))
-  pub kept : IsKept (has_years version) year
-  pub are_amounts : AreAmounts amounts
+-- the first column has the family, if there is a column for it; otherwise the member is its own
+-- family
+abbrev pub HoldsFamily : Bool → Fields → List Column → List ℕ → List ℕ → Type 0
+HoldsFamily true fields columns member family = HoldsAt fields columns 0 (Text family)
+HoldsFamily false fields columns member family = family ≡ member
 
--- the year is the first value and is followed by the new values, or it is 0 and has no value
--- without a column of the year
-abbrev pub TakesYear : Bool → List Value → ℕ → List Value → Type 0
-TakesYear years old year new = (old ≡ year_values years year ++ new) × IsKept years year
+-- the column with this place has the year, if there is a column for it; otherwise the year is 0
+abbrev pub HoldsYear : Bool → Fields → List Column → ℕ → ℕ → Type 0
+HoldsYear true fields columns place year = HoldsAt fields columns place (Text (year_text year)) × IsInRange 1 9999 year
+HoldsYear false fields columns place year = year ≡ 0
 
--- the values begin with a year, if there is a column of the year
-abbrev pub BeginsWithYear : Bool → List Value → Type 0
-BeginsWithYear years values = (year : ℕ) × (rest : List Value) × TakesYear years values year rest
+-- the columns from this place on have the amounts
+abbrev pub HoldsBalance : Fields → List Column → ℕ → Balance → Type 0
+HoldsBalance fields columns place balance =
+    HoldsAt fields columns place (Number balance.met) × HoldsAt fields columns (place + 1) (Number balance.oop) × HoldsAt fields columns (place + 2) (Number balance.paid)

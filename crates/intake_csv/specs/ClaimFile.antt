@@ -1,6 +1,6 @@
 -- A provider's file whose header has the required columns of claims.
-use Rattle.std.specs.Prelude.{◌≡◌, ℕ, List, drop}
-use Rattle.dtable.specs.declared.table.InputData.{InputData}
+use Rattle.std.specs.Prelude.{◌≡◌, ℕ, Bool, List, drop}
+use Rattle.tables.specs.declared.table.InputData.{InputData}
 use Rattle.intake_csv.specs.Columns.{IsHeaderedFile, claim_columns}
 use Rattle.intake_csv.specs.Laws.{LieApart}
 use Rattle.intake_csv.specs.Record.{IsClaimLayout}
@@ -28,10 +28,10 @@ pub record IsFileOf (names : List InputData) (text : List ℕ) (file : FileParts
 abbrev pub rows_of : FileParts → RowsLeft
 rows_of file = record { layout = file.layout; number = 1; place = 0; records = drop 1 (records_of file.text); stage = Reading }
 
--- the invariant of a claim file
-pub record IsValidated (text : List ℕ) (layout : Layout) : Type 0 where
+-- the invariant of a claim file, which has a column for the family or not
+pub record IsValidated (text : List ℕ) (layout : Layout) (families : Bool) : Type 0 where
   pub names : List InputData
   pub under : IsHeaderedFile (claim_columns names) text layout (drop 1 (records_of text))
   pub within : IsWithin layout
-  pub columns : IsClaimLayout layout
+  pub columns : IsClaimLayout families layout
   pub apart : LieApart layout.columns

@@ -7,8 +7,8 @@ use Rattle.csv.specs.Records.{field_at}
 use Rattle.faults.specs.BuiltInNames.{claim_name, family_name, member_name, service_name, billed_name, met_name, oop_name, paid_name, year_name}
 use Rattle.feel_tests.specs.declared.kind.Kind.{Kind}
 use Rattle.feel_tests.specs.declared.kind.Kind.TheVariants as kinds
-use Rattle.dtable.specs.Plan.{has_families, has_years}
-use Rattle.dtable.specs.declared.table.InputData.{InputData}
+use Rattle.tables.specs.Plan.{has_families, has_years}
+use Rattle.tables.specs.declared.table.InputData.{InputData}
 use Rattle.intake_csv.specs.Records.{Fields, AreRecordsOf}
 use Rattle.intake_csv.specs.declared.column.Content.{Content}
 use Rattle.intake_csv.specs.declared.column.Content.TheVariants.{Identifier, Money, Plain, Year}

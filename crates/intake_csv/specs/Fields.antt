@@ -69,7 +69,7 @@ IsFaulty content bytes Sum = ⊥
 abbrev pub IsFaultless : Content → List ℕ → Type 0
 IsFaultless content bytes = (cause : RowCause) → ¬ IsFaulty content bytes cause
 
--- the result of reading a field: its value if it has no fault, and otherwise its fault
-abbrev pub IsFieldRead : Content → List ℕ → Result Value RowCause → Type 0
-IsFieldRead content bytes (Ok value) = Holds content bytes value × IsFaultless content bytes
-IsFieldRead content bytes (Err cause) = IsFaulty content bytes cause
+-- the result of reading a field: what is read is its value, and it has no fault; or its fault
+abbrev pub IsFieldRead : {A : Type 0} → (A → Value) → Content → List ℕ → Result A RowCause → Type 0
+IsFieldRead value content bytes (Ok read) = Holds content bytes (value read) × IsFaultless content bytes
+IsFieldRead value content bytes (Err cause) = IsFaulty content bytes cause

@@ -1,9 +1,9 @@
 -- The laws of claim files.
 use Rattle.std.specs.Prelude.{◌≡◌, ◌≢◌, ℕ, List, [], ◌∷◌}
 use Rattle.std.specs.List.{AllPairs}
-use Rattle.dtable.specs.declared.table.InputData.{InputData}
-use Rattle.dtable.specs.Names.{names_of}
-use Rattle.dtable.specs.Plan.{IsPlan, PlanParts, keeps_families}
+use Rattle.tables.specs.declared.table.InputData.{InputData}
+use Rattle.tables.specs.Names.{names_of}
+use Rattle.tables.specs.Plan.{IsPlan, PlanParts, keeps_families}
 use Rattle.settlement.specs.declared.claim.Claim.{Claim}
 use Rattle.settlement.specs.Claim.{IsClaimOf}
 use Rattle.intake_csv.specs.Records.{Fields}

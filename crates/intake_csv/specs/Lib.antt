@@ -9,7 +9,6 @@ pub mod Rows
 pub mod RowSummary
 pub mod ClaimFile
 pub mod Record
-pub mod Values
 pub mod FamilyYears
 pub mod Balances
 pub mod Validated

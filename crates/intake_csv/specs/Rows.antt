@@ -4,7 +4,7 @@ use Rattle.std.specs.List.{All, AllZip, Any, count_by, slice_get}
 use Rattle.csv.specs.Records.{field_at}
 use Rattle.feel_tests.specs.declared.value.Value.{Value}
 use Rattle.feel_tests.specs.declared.value.Value.TheVariants.{Number, Text, Day}
-use Rattle.dtable.specs.declared.table.InputData.{InputData}
+use Rattle.tables.specs.declared.table.InputData.{InputData}
 use Rattle.settlement.specs.declared.claim.Claim.{Claim}
 use Rattle.settlement.specs.Bindings.{after_family}
 use Rattle.intake_csv.specs.Records.{Fields}

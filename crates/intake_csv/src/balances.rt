@@ -1,35 +1,26 @@
 //! The opening balances of accounts, before their first claim of a run.
-ghost use Rattle.std.specs.Prelude.{◌≡◌, ◌≤◌, ◌<◌, ◌+◌, ◌++◌, ◌∷◌, [], List, length, map, drop, get_or, cond, string_bytes, IfOk, IfErr, OnOk, slice_index_or, IsSome, None, Some};
-ghost use Rattle.std.specs.List.{slice_get};
+ghost use Rattle.std.specs.Prelude.{◌≡◌, ◌≤◌, ◌<◌, ◌+◌, ◌++◌, ◌∷◌, [], List, length, cond, string_bytes, IfOk, IfErr, OnOk, IsSome, None, Some};
 ghost use Rattle.std.specs.Option.{option_and_then, option_copied};
 ghost use Rattle.std.specs.Str.{bytes_eq};
-ghost use Rattle.std.specs.Vec.Iter.{into_iter_items};
-ghost use Rattle.dtable.specs.Plan.{has_families, has_years};
-ghost use Rattle.settlement.specs.Accounts.{named_or};
 ghost use Rattle.settlement.specs.Opening.{opening};
-ghost use Rattle.intake_csv.specs.Balances.{AreAmounts, AreBalances, AreOnce, BeginsWithYear, Entry as AnyEntry, Holder as AnyHolder, HasBalanceFault, HoldsEntries, IsBalanceLayout, JoinsIn, IsEntryShaped, IsKeptUnder, IsRecordFault, TakesEntry, TakesYear, accounts_of, balance_values, books_of, entry_values, found_in, is_holder, refusal_cause, refusal_place};
-ghost use Rattle.intake_csv.specs.Columns.{balance_columns, member_place, met_place, year_columns};
+ghost use Rattle.intake_csv.specs.Balances.{AreBalanceColumns, AreBalances, AreOnce, Entry as AnyEntry, Holder as AnyHolder, HasBalanceFault, HoldsEntries, IsRecordFault, IsReportedAt, JoinsIn, TakesEntry, accounts_of, books_of, entry_of, found_in, is_holder, refusal_cause, refusal_of, refusal_place};
+ghost use Rattle.intake_csv.specs.Columns.{balance_columns, year_columns};
 ghost use Rattle.intake_csv.specs.FamilyYears.{AreOnceBy, balance_in, refused_after};
-ghost use Rattle.intake_csv.specs.Rows.{HasFault};
 ghost use Rattle.intake_csv.specs.HeaderedFile.{IsHeaderedFileOf, IsWithin};
-ghost use Rattle.intake_csv.specs.declared.column.Column.{Column as AnyColumn};
 
 use crate::claim::push_family;
 use crate::column::{Content, Layout, RequiredColumn, push_column};
 use crate::csv_record::CsvRecord;
+use crate::entry::{Entry, member_place, met_place, read_entry};
 use crate::family_year::{FamilyYear, Refusal};
 use crate::headered_file::{HeaderedFile, read_headered_file};
-use crate::record::read_record;
-use crate::values::{take_family, take_money, take_text};
-use dtable::{Plan, Sequence, has_families, has_years};
 use faults::names::{MEMBER, MET, OOP, PAID, YEAR};
 use faults::{BalanceFault, FileFault, RowCause, RowFault};
-use feel_tests::{Text, Value, year_in};
 use settlement::{Acc, Balance};
 use std::alloc::{AllocError, Global};
 use std::collections::BTreeMap;
 use std::marker::Model;
-use std::vec;
+use tables::{Plan, Sequence, has_families, has_years};
 
 /// The opening balances of a file.
 ///
@@ -109,37 +100,6 @@ fn balance_file<'t>(
     }
 }
 
-/// The account of a record, and its balance.
-struct Entry {
-    family: Option<Text>,
-    member: Text,
-    year: u16,
-    balance: Balance,
-}
-
-impl Drop for Entry {
-    fn drop(self) {
-        let Entry {
-            family: _,
-            member: _,
-            year: _,
-            balance: _,
-        } = self;
-    }
-}
-
-impl Entry {
-    // Without a family, the member is its own family.
-    fn family(&self) -> &str
-        ensures { result.now ≡ named_or self.now.family self.now.member }
-    {
-        match &self.family {
-            Some(family) => family.as_str(),
-            None => self.member.as_str(),
-        }
-    }
-}
-
 impl Balances {
     /// Returns the opening accumulators of a member in a family and year. Its own amounts are zero
     /// if it has no balance. The family's sums are over all members of the family. If the plan does
@@ -177,7 +137,7 @@ impl Balances {
         row: &CsvRecord,
     ) -> Result<Result<(), RowFault>, AllocError>
         requires within { IsWithin layout.now }
-        requires balances { IsBalanceLayout version layout.now }
+        requires balances { AreBalanceColumns version layout.now.columns }
         ensures entry { IfOk result (λ read. OnOk read ((front : List AnyEntry)
             → HoldsEntries front self.old
             → TakesEntry version layout.now front row.now self.new)) }
@@ -185,57 +145,44 @@ impl Balances {
             → HoldsEntries front self.old
             → IsRecordFault version layout.now front row.now fault)) }
     {
-        let entry = match read_record(alloc, layout, row)? {
-            Ok(values) => entry_of(values, version),
-            Err(fault) => return Ok(Err(fault)),
+        let entry = match read_entry(alloc, version, layout, row) {
+            Ok(Ok(entry)) => entry,
+            Ok(Err(fault)) => return Ok(Err(fault)),
+            Err(AllocError) => return Err(AllocError),
         };
         if let Some(refusal) = self.refusal(&entry) {
             return Ok(Err(fault_of(layout, version, refusal)));
         }
-        self.put(alloc, entry)?;
+        self.put(alloc, &entry)?;
         Ok(Ok(()))
     }
 
-    #[tactic(auto, using(crate::proofs::Books::refused_some))]
     fn refusal(&self, entry: &Entry) -> Option<Refusal>
-        ensures { result ≡ option_and_then
-            (λ members.
-            refused_after members (balance_in members entry.now.member) entry.now.balance)
-            (found_in self.now (named_or entry.now.family entry.now.member, entry.now.year)) }
+        ensures { result ≡ refusal_of self.now (entry_of entry.now) }
     {
-        match self.find(entry.family(), entry.year) {
-            Some(family_year) => family_year.refusal(entry.member.as_str(), entry.balance),
+        match self.find(entry.family, entry.year) {
+            Some(family_year) => family_year.refusal(entry.member, entry.balance),
             None => None,
         }
     }
 
     // Adds an entry that is not refused.
-    fn put(&mut self, alloc: Global, entry: Entry) -> Result<(), AllocError>
-        requires { option_and_then
-            (λ members.
-            refused_after members (balance_in members entry.member) entry.balance)
-            (found_in self.old (named_or entry.family entry.member, entry.year)) ≡ None }
+    fn put(&mut self, alloc: Global, entry: &Entry) -> Result<(), AllocError>
+        requires { refusal_of self.old (entry_of entry.now) ≡ None }
         ensures { OnOk result ((front : List AnyEntry) → HoldsEntries front self.old
-            → HoldsEntries (front ++ (
-              record {
-                family = named_or entry.family entry.member;
-                member = entry.member;
-                year = entry.year;
-              },
-              entry.balance,
-            ) ∷ []) self.new) }
+            → HoldsEntries (front ++ entry_of entry.now ∷ []) self.new) }
     {
-        let name = String::from_str(alloc, entry.member.as_str())?;
-        if self.find(entry.family(), entry.year).is_some() {
+        let name = String::from_str(alloc, entry.member)?;
+        if self.find(entry.family, entry.year).is_some() {
             return join(
                 &mut self.years,
-                entry.family(),
+                entry.family,
                 entry.year,
                 name,
                 entry.balance,
             );
         }
-        let family = String::from_str(alloc, entry.family())?;
+        let family = String::from_str(alloc, entry.family)?;
         let family_year = FamilyYear::new(alloc, name, entry.balance);
         make_room(alloc, &mut self.years, entry.year)?;
         add(&mut self.years, family, entry.year, family_year)
@@ -246,9 +193,8 @@ impl Balances {
 fn fault_of(layout: &Layout, version: u8, refusal: Refusal) -> RowFault
     requires within { IsWithin layout.now }
     requires there { refusal_place version refusal < length layout.now.columns }
-    ensures { (column : AnyColumn)
-        → slice_get layout.now.columns (refusal_place version refusal) ≡ Some column
-        → result ≡ record { column = column.place + 1; cause = refusal_cause refusal } }
+    ensures { IsReportedAt layout.now
+        (refusal_place version refusal) (refusal_cause refusal) result }
 {
     let place = refusal_place(version, refusal);
     RowFault {
@@ -265,26 +211,6 @@ fn refusal_place(version: u8, refusal: Refusal) -> usize
         Refusal::Again => member_place(version),
         Refusal::Met => met_place(version),
         Refusal::Oop => met_place(version) + 1,
-    }
-}
-
-// Returns the place of the member's column among the required columns.
-fn member_place(version: u8) -> usize
-    ensures value { result ≡ member_place version }
-    ensures small { result ≤ 1 }
-{
-    if has_families(version) { 1 } else { 0 }
-}
-
-// Returns the place of the column `met` among the required columns.
-fn met_place(version: u8) -> usize
-    ensures value { result ≡ met_place version }
-    ensures small { result ≤ 3 }
-{
-    if has_years(version) {
-        member_place(version) + 2
-    } else {
-        member_place(version) + 1
     }
 }
 
@@ -397,60 +323,5 @@ fn push_year(
         push_column(alloc, needed, YEAR, Content::Year)
     } else {
         Ok(())
-    }
-}
-
-fn entry_of(values: Vec<Value>, version: u8) -> Entry
-    requires { IsEntryShaped version values.items }
-    ensures values { values.items ≡ entry_values version (
-      record {
-        family = named_or result.family result.member;
-        member = result.member;
-        year = result.year;
-      },
-      result.balance,
-    ) }
-    ensures kept { IsKeptUnder version (record {
-      family = named_or result.family result.member;
-      member = result.member;
-      year = result.year;
-    }) }
-{
-    let mut values = values.into_iter();
-    let family = take_family(&mut values, has_families(version));
-    let member = take_text(&mut values);
-    let year = take_year(&mut values, has_years(version));
-    let balance = balance_of(values);
-    Entry {
-        family,
-        member,
-        year,
-        balance,
-    }
-}
-
-fn balance_of(values: vec::IntoIter<Value>) -> Balance
-    requires { AreAmounts (into_iter_items values) }
-    ensures { into_iter_items values ≡ balance_values result }
-{
-    let mut values = values;
-    let met = take_money(&mut values);
-    let oop = take_money(&mut values);
-    let paid = take_money(&mut values);
-    Balance { met, oop, paid }
-}
-
-// Takes the first value as the year. Without a column of the year, it takes no value and returns 0.
-fn take_year(values: &mut vec::IntoIter<Value>, years: bool) -> u16
-    requires { BeginsWithYear years (into_iter_items values.old) }
-    ensures { TakesYear years (into_iter_items values.old) result (into_iter_items values.new) }
-{
-    if !years {
-        return 0;
-    }
-    let text = take_text(values);
-    match year_in(text.as_bytes()) {
-        Some(year) => year,
-        None => unreachable!(),
     }
 }

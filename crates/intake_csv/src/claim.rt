@@ -1,10 +1,10 @@
 //! The reader of claims, which makes each claim directly from its record.
-ghost use Rattle.std.specs.Prelude.{◌≡◌, ◌<◌, ◌++◌, ◌^◌, length, map, IfOk, IfErr, IfSome, IfNone, OnOk};
+ghost use Rattle.std.specs.Prelude.{◌≡◌, ◌<◌, ◌++◌, length, map, IfOk, IfErr, IfSome, IfNone, OnOk};
 ghost use Rattle.std.specs.List.{All, Any};
 ghost use Rattle.intake_csv.specs.Columns.{claim_columns, family_columns, required_column, own_columns};
 ghost use Rattle.intake_csv.specs.declared.column.Content.TheVariants as contents;
 ghost use Rattle.intake_csv.specs.Validated.{IsRefusedUnder};
-ghost use Rattle.intake_csv.specs.Record.{AreFromMember, GoesOnAs, IsClaimLayout, has_family_column, is_identifier};
+ghost use Rattle.intake_csv.specs.Record.{AreFromMember, GoesOnAs, IsClaimLayout};
 ghost use Rattle.intake_csv.specs.Rows.{AreValues, HasFault, HasValues, claim_values};
 ghost use Rattle.intake_csv.specs.HeaderedFile.{IsWithin};
 
@@ -12,12 +12,12 @@ use crate::column::{Column, Content, Layout, RequiredColumn, push_column};
 use crate::column_values::{day_of_column, money_of_column, text_of_column, values_of_columns};
 use crate::csv_record::CsvRecord;
 use crate::validation::first_fault;
-use dtable::{InputData, Plan, Sequence};
 use faults::names::{BILLED, CLAIM, FAMILY, MEMBER, SERVICE};
 use faults::{RowCause, RowFault};
 use feel_tests::{Kind, Text};
 use settlement::{Claim, fields_of};
 use std::alloc::{AllocError, Global};
+use tables::{InputData, Plan, Sequence};
 
 /// Returns the required columns of a claim file under a plan.
 pub fn claim_columns(alloc: Global, plan: &Plan) -> Result<Sequence<RequiredColumn>, AllocError>
@@ -78,11 +78,12 @@ fn push_fields(
 /// claim is validated once more, to find the leftmost fault.
 pub fn read_claim(
     alloc: Global,
+    families: bool,
     layout: &Layout,
     row: &CsvRecord,
 ) -> Result<Result<Claim, RowFault>, AllocError>
     requires within { IsWithin layout.now }
-    requires claims { IsClaimLayout layout.now }
+    requires claims { IsClaimLayout families layout.now }
     ensures claim { IfOk result (λ read. IfOk read (λ claim.
         HasValues layout.now row.now (claim_values claim))) }
     ensures fault { IfOk result (λ read. IfErr read (HasFault layout.now row.now)) }
@@ -93,7 +94,7 @@ pub fn read_claim(
             cause: RowCause::FieldCount,
         }));
     }
-    if let Some(claim) = claim_of_record(alloc, layout, row)? {
+    if let Some(claim) = claim_of_record(alloc, families, layout, row)? {
         return Ok(Ok(claim));
     }
     match first_fault(alloc, layout.columns.as_slice(), row)? {
@@ -105,12 +106,12 @@ pub fn read_claim(
 // Returns the claim of these columns, or `None` if a field is refused.
 fn claim_of_record(
     alloc: Global,
+    families: bool,
     layout: &Layout,
     row: &CsvRecord,
 ) -> Result<Option<Claim>, AllocError>
     requires within { All (λ c. c.place < length row.now) layout.now.columns }
-    requires small { length row.now < 2 ^ 64 }
-    requires claims { IsClaimLayout layout.now }
+    requires claims { IsClaimLayout families layout.now }
     ensures claim { IfOk result (λ read. IfSome read (λ claim.
         AreValues row.now layout.now.columns (claim_values claim))) }
     ensures none { IfOk result (λ read. IfNone read
@@ -122,7 +123,7 @@ fn claim_of_record(
     let Some(id) = text_of_column(alloc, *id, row)? else {
         return Ok(None);
     };
-    if !has_family_column(layout) {
+    if !families {
         return claim_after_id(alloc, id, None, following, row);
     }
     let [family, following @ ..] = following else {
@@ -143,7 +144,6 @@ fn claim_after_id(
     row: &CsvRecord,
 ) -> Result<Option<Claim>, AllocError>
     requires within { All (λ c. c.place < length row.now) columns.now }
-    requires small { length row.now < 2 ^ 64 }
     requires columns { AreFromMember columns.now }
     ensures claim { IfOk result (λ read. IfSome read (GoesOnAs row.now columns.now id family)) }
     ensures none { IfOk result (λ read. IfNone read (Any (IsRefusedUnder row.now) columns.now)) }
@@ -157,7 +157,7 @@ fn claim_after_id(
     let Some(service) = day_of_column(alloc, *service, row)? else {
         return Ok(None);
     };
-    let Some(billed) = money_of_column(alloc, *billed, row)? else {
+    let Some(billed) = money_of_column(*billed, row) else {
         return Ok(None);
     };
     let Some(fields) = values_of_columns(alloc, fields, row)? else {
@@ -171,21 +171,4 @@ fn claim_after_id(
         billed,
         fields,
     }))
-}
-
-/// Returns whether a claim file with these columns has one for the family. If it does, the third
-/// column is the member, which is an identifier; otherwise it is the date of service.
-pub fn has_family_column(layout: &Layout) -> bool
-    ensures { result ≡ has_family_column layout.now }
-{
-    match layout.columns.as_slice().get(2) {
-        Some(column) => is_identifier(column.content),
-        None => false,
-    }
-}
-
-fn is_identifier(content: Content) -> bool
-    ensures { result ≡ is_identifier content }
-{
-    matches!(content, Content::Identifier)
 }

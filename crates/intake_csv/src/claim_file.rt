@@ -16,16 +16,18 @@ use crate::headered_file::read_headered_file;
 use crate::records::Records;
 use crate::rows::Rows;
 use csv::ByteRecord;
-use dtable::Plan;
 use faults::FileFault;
 use std::alloc::{AllocError, Global};
 use std::marker::Model;
+use tables::Plan;
 
-/// A claim file: its text, which it borrows, and the places of the required columns in its header.
+/// A claim file: its text, which it borrows, the places of the required columns in its header, and
+/// whether there is one for the family.
 #[derive(Drop)]
 pub struct ClaimFile<'t> {
     text: &'t [u8],
     layout: Layout,
+    families: bool,
 }
 
 impl<'t> Model for ClaimFile<'t> {
@@ -35,7 +37,7 @@ impl<'t> Model for ClaimFile<'t> {
 
     ghost view = { λ f. record { text = f.text.now; layout = f.layout } };
 
-    ghost invariant = { λ f. IsValidated f.text.now f.layout };
+    ghost invariant = { λ f. IsValidated f.text.now f.layout f.families };
 }
 
 impl<'t> ClaimFile<'t> {
@@ -52,6 +54,7 @@ impl<'t> ClaimFile<'t> {
         Ok(ClaimFile {
             text,
             layout: headered_file.layout,
+            families: plan.keeps_families(),
         })
     }
 
@@ -73,6 +76,6 @@ impl<'t> ClaimFile<'t> {
         if !records.read(&mut header)? {
             unreachable!();
         }
-        Ok(Rows::after_header(alloc, layout, records))
+        Ok(Rows::after_header(alloc, layout, self.families, records))
     }
 }

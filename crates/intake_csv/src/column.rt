@@ -2,13 +2,13 @@
 ghost use Rattle.std.specs.Prelude.{◌≡◌, ◌++◌, ◌∷◌, [], IfOk, OnOk};
 ghost use Rattle.intake_csv.specs.Columns.{kind_under, required_column};
 
-use dtable::Sequence;
 use feel_tests::Kind;
 use std::alloc::{AllocError, Global};
 use std::marker::Model;
+use tables::Sequence;
 
 /// The content of the fields of a column.
-#[derive(Clone, Copy, PartialEq, Eq)]
+#[derive(Clone, Copy)]
 pub enum Content {
     /// A text that is not empty: the identifier of a claim, a family or a member.
     Identifier,
@@ -99,7 +99,7 @@ fn required_column(
 }
 
 /// A required column in a file: its place in the header, from 0, and its content.
-#[derive(Clone, Copy, PartialEq, Eq)]
+#[derive(Clone, Copy)]
 pub struct Column {
     pub place: usize,
     pub content: Content,

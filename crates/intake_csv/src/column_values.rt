@@ -1,24 +1,64 @@
 //! The values of a record by column, each with the type of its column. A refused field has no
 //! value; its fault is not reported here.
-ghost use Rattle.std.specs.Prelude.{◌≡◌, ◌<◌, ◌^◌, length, IfOk, IfSome, IfNone};
+ghost use Rattle.std.specs.Prelude.{◌≡◌, ◌<◌, length, IfOk, IfErr, IfSome, IfNone};
+ghost use Rattle.std.specs.Int.{IsInRange};
 ghost use Rattle.std.specs.List.{All, Any};
+ghost use Rattle.feel_tests.specs.Calendar.{year_text};
+ghost use Rattle.feel_tests.specs.TextBytes.{IsText};
 ghost use Rattle.feel_tests.specs.declared.kind.Kind.TheVariants as kinds;
 ghost use Rattle.feel_tests.specs.declared.value.Value.TheVariants as values;
-ghost use Rattle.intake_csv.specs.Validated.{IsRefusedUnder};
-ghost use Rattle.intake_csv.specs.Rows.{AreValues, HoldsUnder};
+ghost use Rattle.intake_csv.specs.Record.{IsPlain};
+ghost use Rattle.intake_csv.specs.Rows.{AreValues, IsFaultyUnder};
+ghost use Rattle.intake_csv.specs.Validated.{IsReadUnder, IsRefusedUnder, IsTextUnder};
 ghost use Rattle.intake_csv.specs.declared.column.Content.TheVariants as contents;
 
 use crate::column::Column;
 use crate::csv_record::CsvRecord;
-use crate::record::read_column;
-use dtable::Sequence;
+use crate::field::{check_identifier, read_money, read_of_kind, read_year};
+use faults::RowCause;
 use feel_tests::{Day, TEXT_LIMIT_BYTES, Text, Value};
 use settlement::Money;
 use std::alloc::{AllocError, Global};
+use tables::Sequence;
+
+/// Returns the text of a column's field, or the fault of a field that is no text.
+#[inline(always)]
+pub fn field_of_column(column: Column, row: &CsvRecord) -> Result<&str, RowCause>
+    requires { column.place < length row.now }
+    ensures text { IfOk result (λ text. IsTextUnder row.now column text.now) }
+    ensures faulty { IfErr result (λ cause. IsFaultyUnder row.now cause column) }
+{
+    let Some(found) = row.text(column.place) else {
+        unreachable!();
+    };
+    let Ok(text) = found else {
+        return Err(RowCause::Utf8);
+    };
+    if text.len() > TEXT_LIMIT_BYTES {
+        return Err(RowCause::TooLong);
+    }
+    Ok(text)
+}
 
 /// Returns the text of a column of identifiers, which is the unchanged field, or `None` if the
 /// field is refused.
-#[tactic(auto, using(crate::proofs::ColumnValues::is_under, crate::proofs::ColumnValues::long_under, crate::proofs::ColumnValues::no_text_under))]
+#[inline(always)]
+pub fn identifier_of_column(column: Column, row: &CsvRecord) -> Option<&str>
+    requires within { column.place < length row.now }
+    requires content { column.content ≡ contents.Identifier }
+    ensures read { IsReadUnder (λ text. values.Text text.now) row.now column result }
+    ensures text { IfSome result (λ text. IsText text.now) }
+{
+    let Ok(text) = field_of_column(column, row) else {
+        return None;
+    };
+    match check_identifier(text) {
+        Ok(()) => Some(text),
+        Err(_) => None,
+    }
+}
+
+/// Returns a copy of the text of a column of identifiers, or `None` if the field is refused.
 pub fn text_of_column(
     alloc: Global,
     column: Column,
@@ -26,23 +66,37 @@ pub fn text_of_column(
 ) -> Result<Option<Text>, AllocError>
     requires within { column.place < length row.now }
     requires content { column.content ≡ contents.Identifier }
-    ensures text { IfOk result (λ read. IfSome read (λ text.
-        HoldsUnder row.now column (values.Text text))) }
-    ensures none { IfOk result (λ read. IfNone read (IsRefusedUnder row.now column)) }
+    ensures { IfOk result (IsReadUnder values.Text row.now column) }
 {
-    let Some(found) = row.text(column.place) else {
-        unreachable!();
-    };
-    let Ok(text) = found else {
+    let Some(text) = identifier_of_column(column, row) else {
         return Ok(None);
     };
-    if text.len() > TEXT_LIMIT_BYTES {
-        return Ok(None);
-    }
-    if text.is_empty() {
-        return Ok(None);
-    }
     Ok(Some(Text::new(alloc, text)?))
+}
+
+/// Returns the year of a column of years, or `None` if the field is refused.
+pub fn year_of_column(column: Column, row: &CsvRecord) -> Option<u16>
+    requires within { column.place < length row.now }
+    requires content { column.content ≡ contents.Year }
+    ensures read { IsReadUnder (λ year. values.Text (year_text year)) row.now column result }
+    ensures in_range { IfSome result (IsInRange 1 9999) }
+{
+    let Ok(text) = field_of_column(column, row) else {
+        return None;
+    };
+    read_year(text).ok()
+}
+
+/// Returns the amount of a column of money, or `None` if the field is refused.
+pub fn money_of_column(column: Column, row: &CsvRecord) -> Option<Money>
+    requires within { column.place < length row.now }
+    requires content { column.content ≡ contents.Money }
+    ensures { IsReadUnder values.Number row.now column result }
+{
+    let Ok(text) = field_of_column(column, row) else {
+        return None;
+    };
+    read_money(text).ok()
 }
 
 /// Returns the date of a column of dates, or `None` if the field is refused.
@@ -53,45 +107,16 @@ pub fn day_of_column(
     row: &CsvRecord,
 ) -> Result<Option<Day>, AllocError>
     requires within { column.place < length row.now }
-    requires small { length row.now < 2 ^ 64 }
     requires content { column.content ≡ contents.Plain kinds.Day }
-    ensures day { IfOk result (λ read. IfSome read (λ day.
-        HoldsUnder row.now column (values.Day day))) }
-    ensures none { IfOk result (λ read. IfNone read (IsRefusedUnder row.now column)) }
+    ensures { IfOk result (IsReadUnder values.Day row.now column) }
 {
-    let Ok(value) = read_column(alloc, column, row)? else {
+    let Some(value) = value_of_column(alloc, column, row)? else {
         return Ok(None);
     };
     let Value::Day(day) = value else {
         unreachable!();
     };
     Ok(Some(day))
-}
-
-/// Returns the amount of a column of money, or `None` if the field is refused.
-#[tactic(auto, using(crate::proofs::Shapes::money_value))]
-pub fn money_of_column(
-    alloc: Global,
-    column: Column,
-    row: &CsvRecord,
-) -> Result<Option<Money>, AllocError>
-    requires within { column.place < length row.now }
-    requires small { length row.now < 2 ^ 64 }
-    requires content { column.content ≡ contents.Money }
-    ensures money { IfOk result (λ read. IfSome read (λ money.
-        HoldsUnder row.now column (values.Number money))) }
-    ensures none { IfOk result (λ read. IfNone read (IsRefusedUnder row.now column)) }
-{
-    let Ok(value) = read_column(alloc, column, row)? else {
-        return Ok(None);
-    };
-    let Value::Number(number) = value else {
-        unreachable!();
-    };
-    let Some(money) = Money::new(number) else {
-        unreachable!();
-    };
-    Ok(Some(money))
 }
 
 /// Returns the values of these columns, in the order of the columns, or `None` if a field is
@@ -102,16 +127,32 @@ pub fn values_of_columns(
     row: &CsvRecord,
 ) -> Result<Option<Sequence<Value>>, AllocError>
     requires within { All (λ c. c.place < length row.now) columns.now }
-    requires small { length row.now < 2 ^ 64 }
+    requires plain { All IsPlain columns.now }
     ensures values { IfOk result (λ read. IfSome read (AreValues row.now columns.now)) }
     ensures none { IfOk result (λ read. IfNone read (Any (IsRefusedUnder row.now) columns.now)) }
 {
     let mut values = Sequence::with_capacity(alloc, columns.len())?;
     for column in columns {
-        let Ok(value) = read_column(alloc, *column, row)? else {
+        let Some(value) = value_of_column(alloc, *column, row)? else {
             return Ok(None);
         };
         values.push(value)?;
     }
     Ok(Some(values))
+}
+
+#[inline(always)]
+fn value_of_column(
+    alloc: Global,
+    column: Column,
+    row: &CsvRecord,
+) -> Result<Option<Value>, AllocError>
+    requires within { column.place < length row.now }
+    requires plain { IsPlain column }
+    ensures { IfOk result (IsReadUnder (λ value. value) row.now column) }
+{
+    let Ok(text) = field_of_column(column, row) else {
+        return Ok(None);
+    };
+    Ok(read_of_kind(alloc, column.content.kind(), text)?.ok())
 }

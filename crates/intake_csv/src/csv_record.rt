@@ -43,7 +43,7 @@ impl Model for CsvRecord {
 }
 
 /// A field is not UTF-8.
-#[derive(Clone, Copy, PartialEq, Eq, Drop)]
+#[derive(Clone, Copy, Drop)]
 pub struct NotUtf8;
 
 impl CsvRecord {

@@ -1,57 +1,35 @@
-//! The reader of a single field of a required column.
-ghost use Rattle.std.specs.Prelude.{◌≤◌, ◌≢◌, length, [], IfOk};
+//! The readers of a single field that is a text, by the content of its column.
+ghost use Rattle.std.specs.Prelude.{IfOk};
+ghost use Rattle.std.specs.Int.{IsInRange};
+ghost use Rattle.feel_tests.specs.Calendar.{year_text};
 ghost use Rattle.feel_tests.specs.TextBytes.{IsText};
-ghost use Rattle.feel_tests.specs.declared.kind.Kind.TheVariants as kinds;
-ghost use Rattle.feel_tests.specs.declared.text.TheConstants.{TEXT_LIMIT_BYTES};
+ghost use Rattle.feel_tests.specs.declared.value.Value.TheVariants as values;
 ghost use Rattle.intake_csv.specs.Fields.{IsFieldRead};
 ghost use Rattle.intake_csv.specs.declared.column.Content.TheVariants as contents;
 
-use crate::column::Content;
 use faults::RowCause;
-use feel_tests::{Kind, PlainFault, TEXT_LIMIT_BYTES, Value, read_plain, year_in};
+use feel_tests::{Kind, PlainFault, Value, read_plain, year_in};
 use fixpoint::{Fixed, text_denotes_at_most_one};
+use settlement::Money;
 use std::alloc::{AllocError, Global};
 
-/// Reads a field that is UTF-8, and returns its value or its first fault.
+/// Returns the first fault of an identifier, which is its own value.
 #[inline(always)]
-pub fn read_text(
-    alloc: Global,
-    content: Content,
-    text: &str,
-) -> Result<Result<Value, RowCause>, AllocError>
-    ensures { IfOk result (IsFieldRead content text.now) }
-{
-    if text.len() > TEXT_LIMIT_BYTES {
-        return Ok(Err(RowCause::TooLong));
-    }
-    match content {
-        Content::Identifier => read_identifier(alloc, text),
-        Content::Money => Ok(read_money(text)),
-        Content::Year => read_year(alloc, text),
-        Content::Plain(kind) => read_of_kind(alloc, kind, text),
-    }
-}
-
-#[tactic(auto, using(crate::proofs::Spelling::identifier_read, crate::proofs::Spelling::unread))]
-#[inline(always)]
-fn read_identifier(alloc: Global, text: &str) -> Result<Result<Value, RowCause>, AllocError>
+pub fn check_identifier(text: &str) -> Result<(), RowCause>
     requires { IsText text.now }
-    ensures { IfOk result (IsFieldRead contents.Identifier text.now) }
+    ensures { IsFieldRead (λ _. values.Text text.now) contents.Identifier text.now result }
 {
     if text.is_empty() {
-        return Ok(Err(RowCause::EmptyId));
+        return Err(RowCause::EmptyId);
     }
-    match read_plain(alloc, Kind::Text, text) {
-        Ok(value) => Ok(Ok(value)),
-        Err(PlainFault::Bad) => Ok(Err(RowCause::Value)),
-        Err(PlainFault::OutOfMemory) => Err(AllocError),
-    }
+    Ok(())
 }
 
+/// Reads an amount of money, or returns the field's first fault.
 #[inline(always)]
-fn read_money(text: &str) -> Result<Value, RowCause>
+pub fn read_money(text: &str) -> Result<Money, RowCause>
     requires { IsText text.now }
-    ensures { IsFieldRead contents.Money text.now result }
+    ensures { IsFieldRead values.Number contents.Money text.now result }
 {
     // proof: a text denotes at most one number
     text_denotes_at_most_one();
@@ -61,36 +39,35 @@ fn read_money(text: &str) -> Result<Value, RowCause>
     if !amount.is_cents() {
         return Err(RowCause::NotCents);
     }
-    if amount.units() < 0 {
-        return Err(RowCause::Negative);
+    match Money::new(amount) {
+        Some(money) => Ok(money),
+        None => Err(RowCause::Negative),
     }
-    Ok(Value::Number(amount))
 }
 
-#[tactic(auto, using(crate::proofs::Spelling::year_read, crate::proofs::Spelling::unread, crate::proofs::Spelling::year_unread))]
-fn read_year(alloc: Global, text: &str) -> Result<Result<Value, RowCause>, AllocError>
+/// Reads a year of four digits, or returns the field's first fault.
+pub fn read_year(text: &str) -> Result<u16, RowCause>
     requires { IsText text.now }
-    ensures { IfOk result (IsFieldRead contents.Year text.now) }
+    ensures read { IsFieldRead (λ year. values.Text (year_text year))
+        contents.Year text.now result }
+    ensures in_range { IfOk result (IsInRange 1 9999) }
 {
-    if year_in(text.as_bytes()).is_none() {
-        return Ok(Err(RowCause::Value));
-    }
-    match read_plain(alloc, Kind::Text, text) {
-        Ok(value) => Ok(Ok(value)),
-        Err(PlainFault::Bad) => Ok(Err(RowCause::Value)),
-        Err(PlainFault::OutOfMemory) => Err(AllocError),
+    match year_in(text.as_bytes()) {
+        Some(year) => Ok(year),
+        None => Err(RowCause::Value),
     }
 }
 
+/// Reads a value of the kind, or returns the field's first fault.
 #[tactic(auto, using(crate::proofs::Spelling::plain_read, crate::proofs::Spelling::unread))]
 #[inline(always)]
-fn read_of_kind(
+pub fn read_of_kind(
     alloc: Global,
     kind: Kind,
     text: &str,
 ) -> Result<Result<Value, RowCause>, AllocError>
     requires { IsText text.now }
-    ensures { IfOk result (IsFieldRead (contents.Plain kind) text.now) }
+    ensures { IfOk result (IsFieldRead (λ value. value) (contents.Plain kind) text.now) }
 {
     match read_plain(alloc, kind, text) {
         Ok(value) => Ok(Ok(value)),

@@ -8,12 +8,12 @@ ghost use Rattle.intake_csv.specs.declared.column.RequiredColumn.{RequiredColumn
 
 use crate::column::{Column, RequiredColumn};
 use csv::ByteRecord;
-use dtable::Sequence;
 use faults::FileFault;
 use std::alloc::Global;
+use tables::Sequence;
 
 /// The occurrences of a name in a header.
-#[derive(Clone, Copy, PartialEq, Eq)]
+#[derive(Clone, Copy)]
 pub enum ColumnMatch {
     /// The name does not occur.
     Missing,

@@ -17,17 +17,16 @@ mod claim_file;
 mod column;
 mod column_values;
 mod csv_record;
+mod entry;
 mod family_year;
 mod field;
 mod header;
 mod headered_file;
 mod laws;
-mod record;
 mod records;
 mod row_summary;
 mod rows;
 mod validation;
-mod values;
 
 pub use balances::{Balances, read_balances};
 pub use claim_file::ClaimFile;

@@ -41,6 +41,7 @@ pub enum Row {
 pub struct Rows<'t> {
     alloc: Global,
     layout: Layout,
+    families: bool,
     records: Records<'t>,
     current: CsvRecord,
     next: usize,
@@ -52,6 +53,7 @@ impl Drop for Rows<'_> {
         let Rows {
             alloc: _,
             layout: _,
+            families: _,
             records: _,
             current: _,
             next: _,
@@ -80,7 +82,7 @@ impl<'t> Model for Rows<'t> {
 
     ghost invariant = { λ r.
         IsWithin r.layout
-        × IsClaimLayout r.layout
+        × IsClaimLayout r.families r.layout
         × (r.claims < r.next)
         × (length r.records.text ≤ file_limit_bytes)
         × (is_failed r.records.stage ≡ false → r.records.given ≡ r.next) };
@@ -88,9 +90,14 @@ impl<'t> Model for Rows<'t> {
 
 impl<'t> Rows<'t> {
     /// Begins at the first record after a validated header.
-    pub(crate) fn after_header(alloc: Global, layout: Layout, records: Records<'t>) -> Rows<'t>
+    pub(crate) fn after_header(
+        alloc: Global,
+        layout: Layout,
+        families: bool,
+        records: Records<'t>,
+    ) -> Rows<'t>
         requires within { IsWithin layout }
-        requires columns { IsClaimLayout layout }
+        requires columns { IsClaimLayout families layout }
         requires small { length records.text ≤ file_limit_bytes }
         requires records { records ≡ record { text = records.text; given = 1; stage = Reading } }
         ensures { result ≡ record {
@@ -104,6 +111,7 @@ impl<'t> Rows<'t> {
         Rows {
             alloc,
             layout,
+            families,
             records,
             current: CsvRecord::new(alloc),
             next: 1,
@@ -126,7 +134,7 @@ impl<'t> Rows<'t> {
             Err(AllocError) => return Err(AllocError),
         }
         let number = self.next;
-        match read_claim(self.alloc, &self.layout, &self.current) {
+        match read_claim(self.alloc, self.families, &self.layout, &self.current) {
             Ok(Ok(claim)) => {
                 let place = self.claims;
                 self.next += 1;
@@ -162,7 +170,7 @@ impl<'t> Rows<'t> {
             Err(AllocError) => return Err(AllocError),
         }
         let number = self.next;
-        match validate_claim(self.alloc, &self.layout, line) {
+        match validate_claim(self.alloc, self.families, &self.layout, line) {
             Ok(Ok(id_columns)) => {
                 let place = self.claims;
                 self.next += 1;

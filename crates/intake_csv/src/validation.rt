@@ -1,34 +1,33 @@
-//! The validation of a record of a claim file. It makes no values, so it needs no memory for texts.
-ghost use Rattle.std.specs.Prelude.{◌≡◌, ◌<◌, ◌+◌, ◌^◌, length, IfOk, IfErr};
+//! The validation of a record. It keeps no values, so that a text needs no memory.
+ghost use Rattle.std.specs.Prelude.{◌<◌, ◌^◌, length, IfOk, IfErr};
 ghost use Rattle.std.specs.List.{All};
-ghost use Rattle.feel_tests.specs.declared.kind.Kind.TheVariants as kinds;
-ghost use Rattle.feel_tests.specs.declared.value.Value.{Value as AnyValue};
+ghost use Rattle.feel_tests.specs.TextBytes.{IsText};
 ghost use Rattle.settlement.specs.declared.claim.Claim.{Claim as AnyClaim};
-ghost use Rattle.intake_csv.specs.RowSummary.{AreIdColumnsOf};
-ghost use Rattle.intake_csv.specs.Validated.{IsFieldValidated, AreValidated};
-ghost use Rattle.intake_csv.specs.Record.{IsClaimLayout};
-ghost use Rattle.intake_csv.specs.Rows.{HasFault, HasValues, HoldsUnder, IsFaultlessUnder, IsFaultyUnder, claim_values};
 ghost use Rattle.intake_csv.specs.HeaderedFile.{IsWithin};
-ghost use Rattle.intake_csv.specs.declared.column.Content.TheVariants as contents;
+ghost use Rattle.intake_csv.specs.Record.{IsClaimLayout, IsLeftmost};
+ghost use Rattle.intake_csv.specs.RowSummary.{AreIdColumnsOf};
+ghost use Rattle.intake_csv.specs.Rows.{HasFault, HasValues, claim_values};
+ghost use Rattle.intake_csv.specs.Validated.{AreValidated, IsColumnValidated, IsFieldValidated};
 
-use crate::claim::has_family_column;
 use crate::column::{Column, Content, Layout};
+use crate::column_values::field_of_column;
 use crate::csv_record::CsvRecord;
-use crate::field::read_text;
-use crate::record::leftmost_fault;
+use crate::field::{check_identifier, read_money, read_of_kind, read_year};
 use crate::row_summary::IdColumns;
 use faults::{RowCause, RowFault};
-use feel_tests::{Kind, TEXT_LIMIT_BYTES};
+use feel_tests::Kind;
 use std::alloc::{AllocError, Global};
 
-/// Validates a record, and returns the columns that identify its claim, or its first fault.
+/// Validates a record of a claim file, and returns the columns that identify its claim, or its
+/// first fault.
 pub fn validate_claim(
     alloc: Global,
+    families: bool,
     layout: &Layout,
     line: &CsvRecord,
 ) -> Result<Result<IdColumns, RowFault>, AllocError>
     requires within { IsWithin layout.now }
-    requires claims { IsClaimLayout layout.now }
+    requires claims { IsClaimLayout families layout.now }
     ensures claim { IfOk result (λ validated. IfOk validated (λ id_columns.
         (claim : AnyClaim)
         × HasValues layout.now line.now (claim_values claim)
@@ -45,7 +44,7 @@ pub fn validate_claim(
     if let Some(fault) = first_fault(alloc, columns, line)? {
         return Ok(Err(fault));
     }
-    let (family, following) = if has_family_column(layout) {
+    let (family, following) = if families {
         (Some(columns[1].place), 2)
     } else {
         (None, 1)
@@ -72,88 +71,60 @@ pub fn first_fault(
     let mut first = None;
     for column in columns {
         first = match validate_column(alloc, *column, line)? {
-            Ok(()) => first,
-            Err(fault) => Some(leftmost_fault(first, fault)),
+            None => first,
+            Some(cause) => Some(leftmost_fault(
+                first,
+                RowFault {
+                    column: column.place + 1,
+                    cause,
+                },
+            )),
         };
     }
     Ok(first)
 }
 
+// Returns the fault whose column comes first in the header.
+fn leftmost_fault(first: Option<RowFault>, fault: RowFault) -> RowFault
+    ensures { IsLeftmost first fault result }
+{
+    match first {
+        Some(other) if other.column <= fault.column => other,
+        _ => fault,
+    }
+}
+
+// Returns the first fault of a column's field, if it has one.
 #[inline(always)]
 fn validate_column(
     alloc: Global,
     column: Column,
     line: &CsvRecord,
-) -> Result<Result<(), RowFault>, AllocError>
-    requires within { column.place < length line.now }
-    requires small { length line.now < 2 ^ 64 }
-    ensures value { IfOk result (λ validated. IfOk validated (λ _.
-        (value : AnyValue) × HoldsUnder line.now column value)) }
-    ensures faultless { IfOk result (λ validated. IfOk validated (λ _.
-        IsFaultlessUnder line.now column)) }
-    ensures faulty { IfOk result (λ validated. IfErr validated (λ fault.
-        IsFaultyUnder line.now fault.cause column)) }
-    ensures column { IfOk result (λ validated. IfErr validated (λ fault.
-        fault.column ≡ column.place + 1)) }
+) -> Result<Option<RowCause>, AllocError>
+    requires { column.place < length line.now }
+    ensures { IfOk result (IsColumnValidated line.now column) }
 {
-    let Some(found) = line.text(column.place) else {
-        unreachable!();
-    };
-    let fault = column.place + 1;
-    let Ok(text) = found else {
-        return Ok(Err(RowFault {
-            column: fault,
-            cause: RowCause::Utf8,
-        }));
-    };
-    match validate_text(alloc, column.content, text)? {
-        Ok(()) => Ok(Ok(())),
-        Err(cause) => Ok(Err(RowFault {
-            column: fault,
-            cause,
-        })),
+    match field_of_column(column, line) {
+        Ok(text) => validate_text(alloc, column.content, text),
+        Err(cause) => Ok(Some(cause)),
     }
 }
 
-// Returns the first fault of a field that is UTF-8, if it has one. A text is its own value, so it
-// is not copied.
+// A text in a column of texts is its own value, and is not copied.
 #[inline(always)]
 fn validate_text(
     alloc: Global,
     content: Content,
     text: &str,
-) -> Result<Result<(), RowCause>, AllocError>
+) -> Result<Option<RowCause>, AllocError>
+    requires { IsText text.now }
     ensures { IfOk result (IsFieldValidated content text.now) }
 {
     match content {
-        Content::Identifier => Ok(validate_identifier(text)),
-        Content::Plain(Kind::Text) => Ok(validate_words(text)),
-        _ => match read_text(alloc, content, text)? {
-            Ok(_) => Ok(Ok(())),
-            Err(cause) => Ok(Err(cause)),
-        },
+        Content::Identifier => Ok(check_identifier(text).err()),
+        Content::Money => Ok(read_money(text).err()),
+        Content::Year => Ok(read_year(text).err()),
+        Content::Plain(Kind::Text) => Ok(None),
+        Content::Plain(kind) => Ok(read_of_kind(alloc, kind, text)?.err()),
     }
-}
-
-#[tactic(auto, using(crate::proofs::ValidRecords::identifier_validated))]
-fn validate_identifier(text: &str) -> Result<(), RowCause>
-    ensures { IsFieldValidated contents.Identifier text.now result }
-{
-    if text.len() > TEXT_LIMIT_BYTES {
-        return Err(RowCause::TooLong);
-    }
-    if text.is_empty() {
-        return Err(RowCause::EmptyId);
-    }
-    Ok(())
-}
-
-#[tactic(auto, using(crate::proofs::ValidRecords::words_validated))]
-fn validate_words(text: &str) -> Result<(), RowCause>
-    ensures { IsFieldValidated (contents.Plain kinds.Text) text.now result }
-{
-    if text.len() > TEXT_LIMIT_BYTES {
-        return Err(RowCause::TooLong);
-    }
-    Ok(())
 }

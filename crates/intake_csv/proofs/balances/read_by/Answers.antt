@@ -2,13 +2,14 @@ use Rattle.intake_csv.proofs.AllRecords.{read-at, records-few}
 use Rattle.std.proofs.Common.{arith, rules, ap, length, ◌+◌}
 use Rattle.intake_csv.specs.Records.{records_of, remaining, RecordsLeft}
 use Rattle.intake_csv.proofs.Entries.{read-all, read-next, refused-next, read_none}
-use Rattle.intake_csv.proofs.Shapes.{balance-layout}
+use Rattle.intake_csv.specs.Columns.{balance_columns}
+use Rattle.intake_csv.proofs.Shapes.{contents-of}
 use Rattle.intake_csv.proofs.balances.read_by.Goals as goal
 
 pub read-requires-in-loop-record-clause-balances : goal.read-requires-in-loop-record-clause-balances
 read-requires-in-loop-record-clause-balances c =
     let s = c.in_ok-headered_file.ensures.ok in
-    balance-layout c.args.version s.is_headered_file.header c.in_ok-headered_file.headered_file.layout s.is_headered_file.columns
+    contents-of s.is_headered_file.header (balance_columns c.args.version) c.in_ok-headered_file.headered_file.layout.columns s.is_headered_file.columns
 
 pub loop-record-preserved : goal.loop-record-preserved
 loop-record-preserved c =

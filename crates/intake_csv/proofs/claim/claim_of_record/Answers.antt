@@ -7,8 +7,8 @@ use Rattle.intake_csv.proofs.Lists.{all-within, any-first, any-within}
 use Rattle.intake_csv.proofs.ColumnValues.{ReportsRefused, refused-among}
 use Rattle.intake_csv.proofs.claim.claim_of_record.Goals as goal
 
-pub returns-then-not-has_family_column-clause-none : goal.returns-then-not-has_family_column-clause-none
-returns-then-not-has_family_column-clause-none c =
+pub returns-then-not-families-clause-none : goal.returns-then-not-families-clause-none
+returns-then-not-families-clause-none c =
     let row = c.args.row.now in
     let columns = c.as_slice.result.now in
     subst (λ all. ReportsRefused row all c.claim_after_id.result) c.as_slice.ensures
@@ -24,7 +24,7 @@ text_of_column-requires-2-clause-within c =
 
 pub returns-in_default-3-clause-none : goal.returns-in_default-3-clause-none
 returns-in_default-3-clause-none c =
-    let refused = rw c.in_default-3.is at c.in_ok-family.ensures.none in
+    let refused = rw c.in_default-3.is at c.in_ok-family.ensures in
     let is_refused = IsRefusedUnder c.args.row.now in
     let columns = c.as_slice.result.now in
     subst (Any is_refused) c.as_slice.ensures (any-within is_refused 1 _ columns (any-first is_refused _ _ c.in-len1-up-following.len_at_least refused))
@@ -55,8 +55,8 @@ claim_after_id-requires-2-clause-columns c = grind (arith, common_steps)
 pub unreachable-requires-in_default-following : goal.unreachable-requires-in_default-following
 unreachable-requires-in_default-following c = grind (arith, common_steps)
 
-pub returns-then-not-has_family_column-clause-claim : goal.returns-then-not-has_family_column-clause-claim
-returns-then-not-has_family_column-clause-claim c = grind (arith, common_steps)
+pub returns-then-not-families-clause-claim : goal.returns-then-not-families-clause-claim
+returns-then-not-families-clause-claim c = grind (arith, common_steps)
 
 pub claim_after_id-requires-clause-columns : goal.claim_after_id-requires-clause-columns
 claim_after_id-requires-clause-columns c = grind (arith, common_steps)
@@ -69,12 +69,6 @@ claim_after_id-requires-clause-within c =
     let is_within : Column → Type 0 = λ column. column.place < length c.args.row.now in
     all-within is_within 1 _ c.as_slice.result.now (subst (All is_within) (sym c.as_slice.ensures) c.requires.within)
 
-pub claim_after_id-requires-clause-small : goal.claim_after_id-requires-clause-small
-claim_after_id-requires-clause-small c = c.requires.small
-
-pub claim_after_id-requires-2-clause-small : goal.claim_after_id-requires-2-clause-small
-claim_after_id-requires-2-clause-small c = c.requires.small
-
 pub text_of_column-requires-clause-within : goal.text_of_column-requires-clause-within
 text_of_column-requires-clause-within c =
     let is_within : Column → Type 0 = λ column. column.place < length c.args.row.now in
@@ -82,6 +76,6 @@ text_of_column-requires-clause-within c =
 
 pub returns-in_default-2-clause-none : goal.returns-in_default-2-clause-none
 returns-in_default-2-clause-none c =
-    let refused = rw c.in_default-2.is at c.in_ok-id.ensures.none in
+    let refused = rw c.in_default-2.is at c.in_ok-id.ensures in
     let is_refused = IsRefusedUnder c.args.row.now in
     subst (Any is_refused) c.as_slice.ensures (any-first is_refused _ _ c.in-len1-up.len_at_least refused)

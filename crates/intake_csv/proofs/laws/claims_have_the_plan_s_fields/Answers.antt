@@ -1,4 +1,4 @@
-use Rattle.dtable.specs.Plan.{keeps_families}
+use Rattle.tables.specs.Plan.{keeps_families}
 use Rattle.intake_csv.proofs.ClaimFields.{claim-has}
 use Rattle.intake_csv.proofs.laws.claims_have_the_plan_s_fields.Goals as goal
 

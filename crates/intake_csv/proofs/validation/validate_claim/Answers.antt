@@ -1,26 +1,25 @@
 use Rattle.std.specs.List.{All}
 use Rattle.std.proofs.lemmas.Grind.{common_steps}
-use Rattle.std.proofs.Common.{◌≡◌, Bool, true, false, length, subst, sym, ◌∙◌, arith, ◌<◌}
-use Rattle.intake_csv.specs.Record.{IsClaimShaped, has_family_column}
+use Rattle.std.proofs.Common.{◌≡◌, Bool, length, subst, sym, ◌∙◌, arith, ◌<◌}
+use Rattle.intake_csv.specs.Record.{IsClaimShaped}
 use Rattle.intake_csv.proofs.ValidRecords.{is-alone, is-joined}
 use Rattle.intake_csv.proofs.Shapes.{claim-shaped}
 use Rattle.intake_csv.proofs.validation.validate_claim.Goals as goal
-use Rattle.intake_csv.proofs.validation.validate_claim.Goals.{then-has_family_column, else-has_family_column}
+use Rattle.intake_csv.proofs.validation.validate_claim.Goals.{then-families, else-families}
 
 pub returns-clause-claim : goal.returns-clause-claim
 returns-clause-claim c =
+    let line = c.args.line.now in
     let layout = c.args.layout.now in
     let validated = rw (c.as_slice-columns.ensures, c.in_default.is) at c.in_ok-fault.ensures in
-    let shaped = claim-shaped (has_family_column layout) c.args.line.now layout.columns validated.0 c.requires.claims.fields c.requires.claims.contents validated.1.0 in
-    let width : length c.args.line.now ≡ layout.width = sym c.len.ensures ∙ c.if-len-layout.false in
-    elim c.if-has_family_column.branch [
-      | then-has_family_column w ↦
-          let families : has_family_column layout ≡ true = sym c.has_family_column.ensures ∙ w.if-has_family_column.true in
-          let claim = is-joined c.args.line.now layout.columns _ validated.0 (subst (λ (b : Bool). IsClaimShaped b validated.0) families shaped) validated.1.0 in
+    let shaped = claim-shaped c.args.families line layout.columns validated.0 c.requires.claims.0 c.requires.claims.1 validated.1.0 in
+    let width : length line ≡ layout.width = sym c.len.ensures ∙ c.if-len-layout.false in
+    elim c.if-families.branch [
+      | then-families w ↦
+          let claim = is-joined line layout.columns _ validated.0 (subst (λ (b : Bool). IsClaimShaped b validated.0) w.if-families.true shaped) validated.1.0 in
           rw (w.family-is, c.as_slice-columns.ensures) (claim.claim, (width, claim.values), claim.id_columns)
-      | else-has_family_column w ↦
-          let families : has_family_column layout ≡ false = sym c.has_family_column.ensures ∙ w.if-has_family_column.false in
-          let claim = is-alone c.args.line.now layout.columns _ validated.0 (subst (λ (b : Bool). IsClaimShaped b validated.0) families shaped) validated.1.0 in
+      | else-families w ↦
+          let claim = is-alone line layout.columns _ validated.0 (subst (λ (b : Bool). IsClaimShaped b validated.0) w.if-families.false shaped) validated.1.0 in
           rw (w.family-is, c.as_slice-columns.ensures) (claim.claim, (width, claim.values), claim.id_columns)
     ]
 
