@@ -6,8 +6,8 @@ use Rattle.std.proofs.lemmas.Bool.{false≢true}
 use Rattle.std.proofs.lemmas.List.{get_or-map, length-map, take_all, take_more}
 use Rattle.std.proofs.lemmas.List.Elements.{All-cons, All-nil}
 use Rattle.std.proofs.lemmas.Option.{slice_get-get_or}
-use Rattle.dtable.specs.Plan.{PlanParts}
-use Rattle.dtable.specs.declared.table.InputData.{InputData}
+use Rattle.tables.specs.Plan.{PlanParts}
+use Rattle.tables.specs.declared.table.InputData.{InputData}
 use Rattle.intake_csv.specs.ClaimFile.{FileParts, IsFileOf, rows_of}
 use Rattle.intake_csv.specs.Rows.{AreRowsLeft, AreRowsOf, IsAtStart, RowsLeft}
 use Rattle.intake_csv.specs.declared.rows.Row.{Row}

@@ -1,3 +1,4 @@
+pub mod Families
 pub mod Files
 pub mod SomeTerms
 pub mod Tallies

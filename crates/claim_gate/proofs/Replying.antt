@@ -12,7 +12,7 @@ use Rattle.settlement.specs.Settlement.{outcome}
 use Rattle.settlement.specs.declared.acc.Acc.{Acc}
 use Rattle.settlement.specs.declared.claim.Claim.{Claim}
 use Rattle.settlement.specs.declared.outcome.Outcome.{Outcome}
-use Rattle.dtable.specs.Plan.{PlanParts}
+use Rattle.tables.specs.Plan.{PlanParts}
 use Rattle.claim_gate.specs.Terms.{TermsParts, AreTerms, texts_of, ForTerms}
 use Rattle.lanes.specs.Places.{Place, is_decided, started, InTurn}
 use Rattle.lanes.specs.declared.phase.Phase.TheVariants.{InWork}
@@ -24,7 +24,7 @@ use Rattle.intake_csv.specs.Balances.{accounts_of}
 use Rattle.journal.specs.Terms.{Terms, IsProvider, claims_of}
 use Rattle.journal.specs.Settled.{outcome_of, accumulated}
 use Rattle.journal.specs.Events.{accepted_count, place_in, places, closed, has_take, has_decision, IsJob}
-use Rattle.journal.specs.Leading.{leads_itself}
+use Rattle.journal.specs.Leading.{leads_itself, running_leads}
 use Rattle.journal.specs.Gate.{OfferReply, EndReply, TakeReply, Continues, GateAt, LeadsTo, Offers, Ends, Takes, is_any_decision}
 use Rattle.journal.specs.Lawful.{Finished, Lawful}
 use Rattle.claim_gate.specs.Shared.{InTurn as ShutTurn}
@@ -53,6 +53,23 @@ event_goes_on false J event = record { rest = event ∷ []; whole = refl }
 -- the gate with these fields, as contracts see it
 abbrev pub seen : Inside → GateParts
 seen s = record { terms = s.terms.now; journal = s.journal.items; stopped = s.stopped }
+
+-- the gate with another journal, as contracts see it
+abbrev pub seen_with : Inside → List Event → GateParts
+seen_with s J = record { terms = s.terms.now; journal = J; stopped = s.stopped }
+
+-- a gate whose journal has not changed has not changed
+pub same_view : (s : Inside) (g : GateParts) (J : List Event) → seen s ≡ g → J ≡ s.journal.items → seen_with s J ≡ g
+same_view s g J is same = ap (seen_with s) same ∙ is
+
+-- a gate whose journal has one more event
+pub grown_view : (s : Inside) (g : GateParts) (J : List Event) (event : Event) → seen s ≡ g → J ≡ s.journal.items ++ event ∷ []
+    → seen_with s J ≡ record g { journal = g.journal ++ event ∷ [] }
+grown_view s g J event is same = subst (λ w. seen_with s J ≡ record w { journal = w.journal ++ event ∷ [] }) is (ap (seen_with s) same)
+
+pub grown_leads : (g new : GateParts) (event : Event) → g.stopped ≡ false → new ≡ record g { journal = g.journal ++ event ∷ [] } → LeadsTo g new
+grown_leads g new event runs same =
+    running_leads g new runs (ap (λ (w : GateParts). w.terms) same) (record { rest = event ∷ []; whole = ap (λ (w : GateParts). w.journal) same })
 
 -- the indexes of the gate agree with its journal
 abbrev pub Keeps : Inside → Type 0

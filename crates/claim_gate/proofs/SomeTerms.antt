@@ -2,7 +2,7 @@
 use Rattle.std.proofs.Common.{ℕ, suc, List, [], ◌∷◌, refl, arith}
 use Rattle.std.specs.List.{All, AllZip}
 use Rattle.settlement.specs.declared.claim.Claim.{Claim}
-use Rattle.dtable.specs.declared.table.InputData.{InputData}
+use Rattle.tables.specs.declared.table.InputData.{InputData}
 use Rattle.intake_csv.specs.Balances.{accounts_of}
 use Rattle.intake_csv.specs.Rows.{claims_among}
 use Rattle.claim_gate.specs.Terms.{AreClaimsOf, AreTerms, ForTerms, IsClaimFile, TermsParts}

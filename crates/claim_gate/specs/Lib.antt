@@ -1,4 +1,5 @@
 pub mod Terms
+pub mod Families
 pub mod TermsFault
 pub mod Intakes
 pub mod Parts

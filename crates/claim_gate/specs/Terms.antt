@@ -2,8 +2,8 @@
 use Rattle.std.specs.Prelude.{◌≡◌, ◌≤◌, ℕ, Bool, List, [], length, map, option_map, Option, Some, None, IsSome}
 use Rattle.std.specs.Borrow.{Bor}
 use Rattle.std.specs.List.{All, AllZip}
-use Rattle.dtable.specs.Plan.{PlanParts}
-use Rattle.dtable.specs.declared.table.InputData.{InputData}
+use Rattle.tables.specs.Plan.{PlanParts}
+use Rattle.tables.specs.declared.table.InputData.{InputData}
 use Rattle.settlement.specs.declared.claim.Claim.{Claim}
 use Rattle.intake_csv.specs.Records.{Fields}
 use Rattle.intake_csv.specs.ClaimFile.{FileParts, IsFileOf}

@@ -1,8 +1,8 @@
 -- Why a run can't be set up from a plan, claim files and balances.
 use Rattle.std.specs.Prelude.{◌≡◌, ◌≢◌, ◌+◌, ℕ, List, take, length, slice_get, Option, Some, None, IsSome}
 use Rattle.std.specs.List.{All}
-use Rattle.dtable.specs.Plan.{PlanParts}
-use Rattle.dtable.specs.declared.table.InputData.{InputData}
+use Rattle.tables.specs.Plan.{PlanParts}
+use Rattle.tables.specs.declared.table.InputData.{InputData}
 use Rattle.intake_csv.specs.Columns.{HasFileFault, claim_columns}
 use Rattle.intake_csv.specs.Balances.{HasBalanceFault}
 use Rattle.faults.specs.declared.file_fault.FileFault.{FileFault}

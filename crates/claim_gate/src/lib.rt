@@ -40,7 +40,7 @@ pub use gate::Gate;
 pub use job::{DecidedJob, Job};
 pub use journal::{BoxedOutcome, Event};
 pub use lanes::BoxedClaim;
-pub use laws::claim_lists_exist;
+pub use laws::{claim_lists_exist, families_of_texts_are_their_members};
 pub use locked::LockedGate;
 pub use offer::Offer;
 pub use prefetching::{Prefetching, SerialPrefetching};

@@ -11,12 +11,12 @@ ghost use Rattle.intake_csv.specs.Rows.{AreRowsLeft, AreRowsOf, IsAtStart};
 ghost use Rattle.intake_csv.specs.declared.rows.Row.{Row as AnyRow};
 ghost use Rattle.claim_gate.specs.Terms.{AreBalancesOf, AreFilesOf, AreTerms, AreTermsOf, text_in, texts_of};
 
-use dtable::{Plan, Sequence};
 use faults::TermsFault;
 use intake_csv::{BalanceFault, Balances, ClaimFile, FileFault, Rows, read_balances};
 use settlement::{Acc, Claim, account_year};
 use std::alloc::{AllocError, Global};
 use std::marker::Model;
+use tables::{Plan, Sequence};
 
 /// The maximum number of providers' files in a run.
 pub const FILES_LIMIT: usize = 64;

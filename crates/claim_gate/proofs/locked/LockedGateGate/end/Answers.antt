@@ -1,18 +1,32 @@
 use Rattle.std.proofs.Common.{◌+◌, ap, ◌∙◌, rules}
-use Rattle.claim_gate.proofs.Sharing.{had_section}
+use Rattle.journal.specs.Gate.{Ends}
+use Rattle.claim_gate.specs.Replies.{HasClaims, end_reply}
+use Rattle.claim_gate.proofs.Sharing.{section_of, still_for, went_so, worn_so}
 use Rattle.claim_gate.proofs.locked.LockedGateGate.end.Goals as goal
 
 pub returns-in-Ok-clause-served : goal.returns-in-Ok-clause-served
 returns-in-Ok-clause-served g c =
     let shown = g.S.Value.SerialGate.shown in
-    let shows = g.met.S.Value.SerialGate.shows in
-    let seen = g.S.Section.seen c.args.pass in record {
+    let shows = g.met.S.Value.SerialGate.shows in record {
       own = search rules;
-      section = had_section (record { seen = shown seen; found = shown (g.S.Section.last_found c.args.pass); tally = g.S.Section.tally c.args.pass })
-          (record { seen = shown (g.S.Section.seen c.leave.result); found = shown (g.S.Section.last_found c.leave.result); tally = g.S.Section.tally c.leave.result })
-          (shown c.in-Ok.state) (shown c.end-reply.new.self)
-          (ap shown (c.leave.ensures.last ∙ c.in-Ok.ensures.found)) (ap shown c.leave.ensures.seen)
-          (shows seen c.in-Ok.state c.in-Ok.ensures.fresh) c.journal-lawful.ensures.lawful
-          (shows c.in-Ok.state c.end-reply.new.self c.end-reply.ensures.grown) c.end-reply.ensures.lawful
-          (c.leave.ensures.tally ∙ ap (λ n. n + 1) c.in-Ok.ensures.tally);
+      section = section_of shown g.S.Section.seen g.S.Section.last_found g.S.Section.tally c.args.pass c.leave.result c.in-Ok.state c.end-reply.new.self
+          c.leave.ensures.seen (c.leave.ensures.last ∙ c.in-Ok.ensures.found) (shows (g.S.Section.seen c.args.pass) c.in-Ok.state c.in-Ok.ensures.fresh)
+          c.journal-lawful.ensures.lawful (shows c.in-Ok.state c.end-reply.new.self c.end-reply.ensures.grown) c.end-reply.ensures.lawful (c.leave.ensures.tally ∙ ap (λ n. n + 1) c.in-Ok.ensures.tally);
     }
+
+pub returns-in-Ok-clause-reply : goal.returns-in-Ok-clause-reply
+returns-in-Ok-clause-reply g c =
+    went_so g.S.Value.SerialGate.shown g.S.Section.seen g.S.Section.last_found g.S.Section.tally c.args.pass c.leave.result c.in-Ok.state c.end-reply.new.self
+    c.leave.ensures.seen (c.leave.ensures.last ∙ c.in-Ok.ensures.found) (λ old new. Ends old c.args.provider c.args.count (end_reply c.end-reply.result) new) c.end-reply.ensures.reply
+
+pub returns-in-Err-clause-worn : goal.returns-in-Err-clause-worn
+returns-in-Err-clause-worn g c =
+    worn_so g.S.Value.SerialGate.shown g.S.Section.seen g.S.Section.last_found g.S.Section.tally _ g.S.Section.is_worn c.args.pass c.in-Err.pass c.in-Err.ensures.back c.in-Err.ensures.worn
+
+pub leave-requires-clause-grown : goal.leave-requires-clause-grown
+leave-requires-clause-grown g c = rw c.in-Ok.ensures.found c.end-reply.ensures.grown
+
+pub end-reply-requires : goal.end-reply-requires
+end-reply-requires g c =
+    let leads = g.met.S.Value.SerialGate.shows (g.S.Section.seen c.args.pass) c.in-Ok.state c.in-Ok.ensures.fresh in
+    still_for (g.S.Value.SerialGate.shown (g.S.Section.seen c.args.pass)) (g.S.Value.SerialGate.shown c.in-Ok.state) (λ T. HasClaims T c.args.provider c.args.count) leads c.requires.claims

@@ -1,7 +1,8 @@
-use Rattle.std.proofs.Common.{refl, rules, ◌≤◌, length, arith}
+use Rattle.std.proofs.Common.{ap, refl, rules, ◌≤◌, length, arith}
 use Rattle.claim_gate.specs.Intakes.{intake_of}
 use Rattle.journal.specs.Leading.{running_leads}
-use Rattle.claim_gate.proofs.Replying.{IsAccepted, accepts, accepted_within, kept_alike, leads_alike}
+use Rattle.claim_gate.specs.Parts.{at}
+use Rattle.claim_gate.proofs.Replying.{IsAccepted, accepts, accepted_within, kept_alike, leads_alike, same_view}
 use Rattle.claim_gate.proofs.state.GateState.accept.Goals as goal
 
 pub accept-requires : goal.accept-requires
@@ -34,12 +35,27 @@ invariant_of-self c = kept_alike c.self.inside c.reserve.new.self.items c.self.i
 pub invariant_of-self-in-Err : goal.invariant_of-self-in-Err
 invariant_of-self-in-Err c = kept_alike c.self.inside c.reserve.new.self.items c.add.new.self (search rules) c.in-Err.ensures.refused c.self.invariant
 
-pub returns-then-is_err-clause-leads : goal.returns-then-is_err-clause-leads
-returns-then-is_err-clause-leads c = leads_alike c.args.self.now _ (search rules)
-
-pub returns-in-Err-clause-leads : goal.returns-in-Err-clause-leads
-returns-in-Err-clause-leads c = leads_alike c.args.self.now _ (search rules)
-
 pub returns-in-Err-clause-lawful : goal.returns-in-Err-clause-lawful
 returns-in-Err-clause-lawful c =
     (kept_alike c.self.inside c.reserve.new.self.items c.add.new.self (search rules) c.in-Err.ensures.refused c.self.invariant).lawful
+
+pub returns-then-is_err-clause-reply : goal.returns-then-is_err-clause-reply
+returns-then-is_err-clause-reply c = λ T is. ap (at T) (same_view c.self.inside c.args.self.now c.reserve.new.self.items c.self.view_is (search rules))
+
+pub returns-then-is_err-clause-leads : goal.returns-then-is_err-clause-leads
+returns-then-is_err-clause-leads c = leads_alike c.args.self.now _ (same_view c.self.inside c.args.self.now c.reserve.new.self.items c.self.view_is (search rules))
+
+pub returns-then-is_err-clause-refused : goal.returns-then-is_err-clause-refused
+returns-then-is_err-clause-refused c = same_view c.self.inside c.args.self.now c.reserve.new.self.items c.self.view_is (search rules)
+
+pub returns-then-is_err-clause-lawful : goal.returns-then-is_err-clause-lawful
+returns-then-is_err-clause-lawful c = (kept_alike c.self.inside c.reserve.new.self.items c.self.inside.lanes (search rules) refl c.self.invariant).lawful
+
+pub returns-in-Err-clause-reply : goal.returns-in-Err-clause-reply
+returns-in-Err-clause-reply c = λ T is. ap (at T) (same_view c.self.inside c.args.self.now c.reserve.new.self.items c.self.view_is (search rules))
+
+pub returns-in-Err-clause-leads : goal.returns-in-Err-clause-leads
+returns-in-Err-clause-leads c = leads_alike c.args.self.now _ (same_view c.self.inside c.args.self.now c.reserve.new.self.items c.self.view_is (search rules))
+
+pub returns-in-Err-clause-refused : goal.returns-in-Err-clause-refused
+returns-in-Err-clause-refused c = same_view c.self.inside c.args.self.now c.reserve.new.self.items c.self.view_is (search rules)

@@ -1,4 +1,6 @@
-use Rattle.std.proofs.Common.{rules}
+use Rattle.std.proofs.Common.{rules, subst}
+use Rattle.journal.specs.Leading.{leads_itself}
+use Rattle.claim_gate.specs.Shared.{IsLawful}
 use Rattle.claim_gate.proofs.Replying.{out_of_turn, in_turn}
 use Rattle.claim_gate.proofs.state.GateState.offer.Goals as goal
 
@@ -21,3 +23,15 @@ returns-then-self-2-clause-refused c = search rules
 
 pub accept-requires-clause-open_yet : goal.accept-requires-clause-open_yet
 accept-requires-clause-open_yet c = search rules
+
+pub returns-then-offer-expected-clause-leads : goal.returns-then-offer-expected-clause-leads
+returns-then-offer-expected-clause-leads c = leads_itself c.args.self.now
+
+pub returns-then-offer-expected-clause-lawful : goal.returns-then-offer-expected-clause-lawful
+returns-then-offer-expected-clause-lawful c = subst IsLawful c.self.view_is c.self.invariant.lawful
+
+pub returns-then-self-clause-leads : goal.returns-then-self-clause-leads
+returns-then-self-clause-leads c = leads_itself c.args.self.now
+
+pub returns-then-self-clause-lawful : goal.returns-then-self-clause-lawful
+returns-then-self-clause-lawful c = subst IsLawful c.self.view_is c.self.invariant.lawful

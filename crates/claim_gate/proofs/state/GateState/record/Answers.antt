@@ -1,9 +1,10 @@
-use Rattle.std.proofs.Common.{◌≡◌, ◌+◌, [], ◌∷◌, Result, Ok, Err, IfErr, is_err, true, refl, rules}
+use Rattle.std.proofs.Common.{◌≡◌, ◌+◌, Result, Ok, Err, IfErr, ap, arith, is_err, true, refl, rules}
 use Rattle.std.proofs.lemmas.Bool.{false≢true}
-use Rattle.journal.specs.Leading.{running_leads}
+use Rattle.std.proofs.lemmas.Grind.{common_steps}
 use Rattle.journal.specs.declared.event.Event.TheVariants.{Decide}
 use Rattle.claim_gate.specs.GateIndex.{IsKept}
-use Rattle.claim_gate.proofs.Replying.{kept_alike, leads_alike, left_is, records, settles}
+use Rattle.claim_gate.specs.Parts.{at}
+use Rattle.claim_gate.proofs.Replying.{grown_leads, grown_view, kept_alike, leads_alike, left_is, records, same_view, settles}
 use Rattle.claim_gate.proofs.state.GateState.record.Goals as goal
 
 pub unwrap-left-requires : goal.unwrap-left-requires
@@ -37,12 +38,35 @@ invariant_of-self-then-is_err-2 c =
     let refused : is_err c.decide.result ≡ true = cc (c.is_err-2.ensures.value, c.if-is_err-2.true) in
     kept_alike c.self.inside c.reserve.new.self.items c.decide.new.self (search rules) (if-refused c.decide.result _ refused c.decide.ensures.refused) c.self.invariant
 
+pub returns-then-is_err-clause-reply : goal.returns-then-is_err-clause-reply
+returns-then-is_err-clause-reply c = λ T is. ap (at T) (same_view c.self.inside c.args.self.now c.reserve.new.self.items c.self.view_is (search rules))
+
 pub returns-then-is_err-clause-leads : goal.returns-then-is_err-clause-leads
-returns-then-is_err-clause-leads c = leads_alike c.args.self.now _ (search rules)
+returns-then-is_err-clause-leads c = leads_alike c.args.self.now _ (same_view c.self.inside c.args.self.now c.reserve.new.self.items c.self.view_is (search rules))
+
+pub returns-then-is_err-clause-refused : goal.returns-then-is_err-clause-refused
+returns-then-is_err-clause-refused c = same_view c.self.inside c.args.self.now c.reserve.new.self.items c.self.view_is (search rules)
+
+pub returns-then-is_err-clause-lawful : goal.returns-then-is_err-clause-lawful
+returns-then-is_err-clause-lawful c = (kept_alike c.self.inside c.reserve.new.self.items c.self.inside.lanes (search rules) refl c.self.invariant).lawful
+
+pub returns-then-is_err-2-clause-reply : goal.returns-then-is_err-2-clause-reply
+returns-then-is_err-2-clause-reply c = λ T is. ap (at T) (same_view c.self.inside c.args.self.now c.reserve.new.self.items c.self.view_is (search rules))
 
 pub returns-then-is_err-2-clause-leads : goal.returns-then-is_err-2-clause-leads
-returns-then-is_err-2-clause-leads c = leads_alike c.args.self.now _ (search rules)
+returns-then-is_err-2-clause-leads c = leads_alike c.args.self.now _ (same_view c.self.inside c.args.self.now c.reserve.new.self.items c.self.view_is (search rules))
+
+pub returns-then-is_err-2-clause-refused : goal.returns-then-is_err-2-clause-refused
+returns-then-is_err-2-clause-refused c = same_view c.self.inside c.args.self.now c.reserve.new.self.items c.self.view_is (search rules)
+
+pub returns-clause-recorded : goal.returns-clause-recorded
+returns-clause-recorded c = grown_view c.self.inside c.args.self.now c.append.new.journal.items (Decide c.args.job.position c.args.outcome) c.self.view_is (search rules)
+
+pub returns-clause-reply : goal.returns-clause-reply
+returns-clause-reply c = λ T is. (c.requires.runs, c.requires.once, ap (at T) (grown_view c.self.inside c.args.self.now c.append.new.journal.items (Decide c.args.job.position c.args.outcome) c.self.view_is (search rules)))
 
 pub returns-clause-leads : goal.returns-clause-leads
-returns-clause-leads c =
-    running_leads c.args.self.now _ c.requires.runs (search rules) (record { rest = Decide c.args.job.position c.args.outcome ∷ []; whole = search rules })
+returns-clause-leads c = grown_leads c.args.self.now _ (Decide c.args.job.position c.args.outcome) c.requires.runs (grown_view c.self.inside c.args.self.now c.append.new.journal.items (Decide c.args.job.position c.args.outcome) c.self.view_is (search rules))
+
+pub overflow_add-self : goal.overflow_add-self
+overflow_add-self c = grind (arith, common_steps)

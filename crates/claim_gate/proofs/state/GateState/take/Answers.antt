@@ -1,7 +1,9 @@
-use Rattle.std.proofs.Common.{[], ◌∷◌, refl, rules}
-use Rattle.journal.specs.Leading.{running_leads}
+use Rattle.std.proofs.Common.{ap, refl, rules, subst}
+use Rattle.journal.specs.Leading.{leads_itself}
 use Rattle.journal.specs.declared.event.Event.TheVariants.{Take}
-use Rattle.claim_gate.proofs.Replying.{is_over, kept_alike, leads_alike, nothing_ready, IsTaken, takes}
+use Rattle.claim_gate.specs.Parts.{at}
+use Rattle.claim_gate.specs.Shared.{IsLawful}
+use Rattle.claim_gate.proofs.Replying.{IsTaken, grown_leads, grown_view, is_over, kept_alike, leads_alike, nothing_ready, same_view, takes}
 use Rattle.claim_gate.proofs.state.GateState.take.Goals as goal
 
 pub returns-then-is_over-clause-reply : goal.returns-then-is_over-clause-reply
@@ -33,16 +35,42 @@ pub invariant_of-self-in_default : goal.invariant_of-self-in_default
 invariant_of-self-in_default c =
     kept_alike c.self.inside c.reserve.new.self.items c.take.new.self (search rules) c.in_default.ensures.unchanged c.self.invariant
 
-pub returns-then-is_err-clause-leads : goal.returns-then-is_err-clause-leads
-returns-then-is_err-clause-leads c = leads_alike c.args.self.now _ (search rules)
-
-pub returns-in_default-clause-leads : goal.returns-in_default-clause-leads
-returns-in_default-clause-leads c = leads_alike c.args.self.now _ (search rules)
-
-pub returns-clause-leads : goal.returns-clause-leads
-returns-clause-leads c =
-    running_leads c.args.self.now _ (search rules) (search rules) (record { rest = Take c.in-Some.picked.position ∷ []; whole = search rules })
-
 pub returns-in_default-clause-lawful : goal.returns-in_default-clause-lawful
 returns-in_default-clause-lawful c =
     (kept_alike c.self.inside c.reserve.new.self.items c.take.new.self (search rules) c.in_default.ensures.unchanged c.self.invariant).lawful
+
+pub returns-then-is_err-clause-reply : goal.returns-then-is_err-clause-reply
+returns-then-is_err-clause-reply c = λ T is. ap (at T) (same_view c.self.inside c.args.self.now c.reserve.new.self.items c.self.view_is (search rules))
+
+pub returns-then-is_err-clause-leads : goal.returns-then-is_err-clause-leads
+returns-then-is_err-clause-leads c = leads_alike c.args.self.now _ (same_view c.self.inside c.args.self.now c.reserve.new.self.items c.self.view_is (search rules))
+
+pub returns-then-is_err-clause-refused : goal.returns-then-is_err-clause-refused
+returns-then-is_err-clause-refused c = same_view c.self.inside c.args.self.now c.reserve.new.self.items c.self.view_is (search rules)
+
+pub returns-then-is_err-clause-lawful : goal.returns-then-is_err-clause-lawful
+returns-then-is_err-clause-lawful c = (kept_alike c.self.inside c.reserve.new.self.items c.self.inside.lanes (search rules) refl c.self.invariant).lawful
+
+pub returns-in_default-clause-leads : goal.returns-in_default-clause-leads
+returns-in_default-clause-leads c = leads_alike c.args.self.now _ (same_view c.self.inside c.args.self.now c.reserve.new.self.items c.self.view_is (search rules))
+
+pub returns-in_default-clause-work : goal.returns-in_default-clause-work
+returns-in_default-clause-work c = same_view c.self.inside c.args.self.now c.reserve.new.self.items c.self.view_is (search rules)
+
+pub returns-then-self-clause-leads : goal.returns-then-self-clause-leads
+returns-then-self-clause-leads c = leads_itself c.args.self.now
+
+pub returns-then-self-clause-lawful : goal.returns-then-self-clause-lawful
+returns-then-self-clause-lawful c = subst IsLawful c.self.view_is c.self.invariant.lawful
+
+pub returns-then-is_over-clause-leads : goal.returns-then-is_over-clause-leads
+returns-then-is_over-clause-leads c = leads_itself c.args.self.now
+
+pub returns-then-is_over-clause-lawful : goal.returns-then-is_over-clause-lawful
+returns-then-is_over-clause-lawful c = subst IsLawful c.self.view_is c.self.invariant.lawful
+
+pub returns-clause-work : goal.returns-clause-work
+returns-clause-work c = grown_view c.self.inside c.args.self.now c.append.new.journal.items (Take c.in-Some.picked.position) c.self.view_is (search rules)
+
+pub returns-clause-leads : goal.returns-clause-leads
+returns-clause-leads c = grown_leads c.args.self.now _ (Take c.in-Some.picked.position) (search rules) (grown_view c.self.inside c.args.self.now c.append.new.journal.items (Take c.in-Some.picked.position) c.self.view_is (search rules))
