@@ -9,9 +9,9 @@ use Rattle.std.proofs.lemmas.Slice.Eq.{bytes_eq-Decides}
 use Rattle.feel_tests.specs.Value.{kind_of}
 use Rattle.feel_tests.specs.declared.kind.Kind.{Kind}
 use Rattle.feel_tests.specs.declared.kind.Kind.TheVariants as kinds
-use Rattle.dtable.specs.Names.{accumulator_names, claim_names, names_of}
-use Rattle.dtable.specs.Plan.{IsPlan, PlanParts, keeps_families}
-use Rattle.dtable.specs.declared.table.InputData.{InputData}
+use Rattle.tables.specs.Names.{accumulator_names, claim_names, names_of}
+use Rattle.tables.specs.Plan.{IsPlan, PlanParts, keeps_families}
+use Rattle.tables.specs.declared.table.InputData.{InputData}
 use Rattle.settlement.specs.Claim.{IsClaimOf}
 use Rattle.settlement.specs.declared.claim.Claim.{Claim}
 use Rattle.intake_csv.specs.Laws.{ClaimsHaveFields}

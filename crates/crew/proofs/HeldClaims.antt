@@ -8,7 +8,7 @@ use Rattle.std.proofs.lemmas.List.Folds.{list_any-append}
 use Rattle.settlement.specs.Claim.{IsClaimOf}
 use Rattle.settlement.specs.Settlement.{outcome}
 use Rattle.settlement.specs.declared.outcome.Outcome.{Outcome}
-use Rattle.dtable.specs.Plan.{PlanParts}
+use Rattle.tables.specs.Plan.{PlanParts}
 use Rattle.journal.specs.Events.{has_decision, is_decide, is_take, has_take}
 use Rattle.journal.specs.Gate.{Continues, LeadsTo}
 use Rattle.journal.specs.Laws.{JobsAreStable}

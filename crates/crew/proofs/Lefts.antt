@@ -2,7 +2,7 @@
 use Rattle.std.proofs.Common.{◌≡◌, ℕ, zero, suc, ◌<◌, ◌≤◌, ◌+◌, ◌-◌, ◌^◌, List, [], ◌∷◌, ◌++◌, length, get_or, Some, refl, sym, ap, subst, ◌∙◌, arith, append_assoc, append-nil, length-append}
 use Rattle.std.specs.List.{AllZip, slice_get}
 use Rattle.settlement.specs.declared.claim.Claim.{Claim}
-use Rattle.dtable.specs.declared.table.InputData.{InputData}
+use Rattle.tables.specs.declared.table.InputData.{InputData}
 use Rattle.intake_csv.specs.Laws.{BeginLike, GivenRowHasTheClaim, NoRecordsNoRows, StartHasTheRows}
 use Rattle.intake_csv.specs.Rows.{GivesRow, IsAtStart, RowsLeft, claim_in, claims_among}
 use Rattle.faults.specs.declared.file_fault.RowFault.{RowFault}

@@ -3,7 +3,7 @@ use Rattle.std.proofs.Common.{inl, inr, ◌≡◌, ◌<◌, ◌≤◌, ◌+◌, 
 use Rattle.std.proofs.lemmas.Bool.{cases_Bool, cases_lt, eq-eqb, false≢true, or_left, or_right}
 use Rattle.std.proofs.lemmas.Grind.{flat_map-append}
 use Rattle.claim_gate.specs.Terms.{TermsParts, IsTermsOf, ForTerms}
-use Rattle.dtable.specs.Plan.{IsPlan}
+use Rattle.tables.specs.Plan.{IsPlan}
 use Rattle.settlement.specs.Claim.{IsClaimOf}
 use Rattle.settlement.specs.declared.outcome.Outcome.{Outcome}
 use Rattle.intake_csv.specs.Laws.{ClaimsHaveFields}

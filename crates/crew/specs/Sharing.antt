@@ -1,7 +1,7 @@
 -- What the threads of a run have seen of the gate that they share.
 use Rattle.std.specs.Prelude.{◌≡◌, ◌⊎◌, ◌<◌, ◌≤◌, ◌||◌, ℕ, Bool, true, List, Option, Some, None, length}
 use Rattle.std.specs.List.{All}
-use Rattle.dtable.specs.Plan.{PlanParts}
+use Rattle.tables.specs.Plan.{PlanParts}
 use Rattle.journal.specs.Settled.{outcome_of}
 use Rattle.crew.specs.declared.worker.TakenJobs.{TakenJobs}
 use Rattle.crew.specs.declared.worker.TakenJobs.TheVariants as gathered
