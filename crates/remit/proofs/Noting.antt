@@ -7,8 +7,8 @@ use Rattle.std.proofs.lemmas.Grind.{flat_map-append}
 use Rattle.std.proofs.lemmas.List.{get_or-set_other, get_or-set_same, get_or_append_left, get_or_default, get_or_push, length-set, length_push, take_more}
 use Rattle.std.proofs.lemmas.Option.{slice_get-get_or, slice_get_past, slice_get_read}
 use Rattle.std.proofs.Math.ListN.{set}
-use Rattle.dtable.specs.Environment.{or_else}
-use Rattle.dtable.specs.Plan.{PlanParts}
+use Rattle.tables.specs.Environment.{or_else}
+use Rattle.tables.specs.Plan.{PlanParts}
 use Rattle.settlement.specs.declared.outcome.Outcome.{Outcome}
 use Rattle.journal.specs.Events.{Filed, accept_in, accepted_count, accepts}
 use Rattle.journal.specs.declared.event.Event.{Event}

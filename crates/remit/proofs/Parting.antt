@@ -2,7 +2,7 @@
 use Rattle.std.proofs.Common.{◌≡◌, ℕ, false, Some, Result, Ok, Err, OnOk, is_err, List, [], ◌++◌, sym, subst, ◌∙◌, append-nil}
 use Rattle.std.specs.Io.KnownBytes.{Appends}
 use Rattle.std.proofs.lemmas.Bool.{false≢true}
-use Rattle.dtable.specs.declared.table.InputData.{InputData}
+use Rattle.tables.specs.declared.table.InputData.{InputData}
 use Rattle.intake_csv.specs.declared.rows.Row.{Row}
 use Rattle.remit.specs.RecordWriter.{At, IsUnused, Writes, gathered_of}
 use Rattle.remit.specs.Sections.{IsPart}

@@ -7,7 +7,7 @@ use Rattle.std.proofs.KnownBytes.{Appends-nil}
 use Rattle.std.proofs.lemmas.Grind.{flat_map-append}
 use Rattle.std.proofs.lemmas.List.Concat.{flat_map-cons}
 use Rattle.std.proofs.lemmas.Slice.Zip.{AllZip-long}
-use Rattle.dtable.specs.declared.table.InputData.{InputData}
+use Rattle.tables.specs.declared.table.InputData.{InputData}
 use Rattle.settlement.specs.declared.outcome.Outcome.{Outcome}
 use Rattle.intake_csv.specs.Balances.{accounts_of}
 use Rattle.intake_csv.specs.Rows.{AreRowsOf, claims_among}
@@ -26,7 +26,6 @@ use Rattle.remit.specs.Writing.{WritesFront, WritesReport}
 use Rattle.remit.specs.declared.decisions.Decisions.{Decisions}
 use Rattle.faults.specs.declared.write_fault.WriteCause.TheVariants.{Device, OutOfMemory}
 use Rattle.faults.specs.declared.write_fault.WriteFault.{WriteFault}
-use Rattle.remit.proofs.Filing.{all-written}
 use Rattle.remit.proofs.Holding.{writes-then}
 use Rattle.remit.proofs.Looking.{looked-right}
 
@@ -176,12 +175,6 @@ pub files-same : (old new : Decisions) (names : List InputData) (texts : List (L
     → WritesFiles (looked_up new) names texts a b result → WritesFiles (looked_up old) names texts a b result
 files-same old new names texts a b result kept writes = subst (λ d. WritesFiles (looked_up d) names texts a b result) kept writes
 
--- the writing of the first `count` files is the writing of all files, if there are `count` files
-pub files-counted : (parts : TermsParts) (count : ℕ) (old new : Decisions) (a b : At) (result : Result (Unit {0}) WriteFault) → count ≡ length parts.files → new ≡ old
-    → WritesFiles (looked_up new) parts.plan.names (take count parts.files) a b result → WritesFiles (looked_up old) parts.plan.names parts.files a b result
-files-counted parts count old new a b result all kept writes =
-    files-same old new parts.plan.names parts.files a b result kept (all-written (looked_up new) parts.plan.names parts.files count a b result all writes)
-
 -- the writing ends in the header
 pub header-refused : (parts : TermsParts) (J : List Event) (a b : At) (fault : WriteFault) → IsUnused a.writer → Writes a b (record_text (header_fields parts.plan.version)) (Err fault)
     → WritesFront parts J fault.written a.contents b.contents
@@ -251,20 +244,20 @@ end-refused parts J providers decisions a b c d e fault finished noted as_many u
 
 -- the writing ends by passing on the buffer
 pub ends-written : (parts : TermsParts) (J : List Event) (providers : ℕ) (decisions : Decisions) (a b c d e : At) (result : Result (Unit {0}) WriteFault)
-    → LaidOut parts.plan.version providers J decisions → providers ≡ length parts.files → IsUnused a.writer → Writes a b (record_text (header_fields parts.plan.version)) (Ok tt)
+    → IsFinishedOver parts J → LaidOut parts.plan.version providers J decisions → providers ≡ length parts.files → IsUnused a.writer → Writes a b (record_text (header_fields parts.plan.version)) (Ok tt)
     → WritesFiles (looked_up decisions) parts.plan.names parts.files b c (Ok tt) → Writes c d (record_text (total_fields parts.plan.version J)) (Ok tt) → Writes d e [] result
-    → OnOk result (gathered_of e.writer ≡ []) → OnOk result (IsFinishedOver parts J → WritesReport parts J a.contents e.contents)
-ends-written parts J providers decisions a b c d e (Ok done) noted as_many unused header files total end none =
-    λ finished. report-written parts J providers decisions a b c d e finished noted as_many unused header files total end none
-ends-written parts J providers decisions a b c d e (Err fault) noted as_many unused header files total end none = tt
+    → OnOk result (gathered_of e.writer ≡ []) → OnOk result (WritesReport parts J a.contents e.contents)
+ends-written parts J providers decisions a b c d e (Ok done) finished noted as_many unused header files total end none =
+    report-written parts J providers decisions a b c d e finished noted as_many unused header files total end none
+ends-written parts J providers decisions a b c d e (Err fault) finished noted as_many unused header files total end none = tt
 
 pub ends-refused : (parts : TermsParts) (J : List Event) (providers : ℕ) (decisions : Decisions) (a b c d e : At) (result : Result (Unit {0}) WriteFault)
-    → LaidOut parts.plan.version providers J decisions → providers ≡ length parts.files → IsUnused a.writer → Writes a b (record_text (header_fields parts.plan.version)) (Ok tt)
+    → IsFinishedOver parts J → LaidOut parts.plan.version providers J decisions → providers ≡ length parts.files → IsUnused a.writer → Writes a b (record_text (header_fields parts.plan.version)) (Ok tt)
     → WritesFiles (looked_up decisions) parts.plan.names parts.files b c (Ok tt) → Writes c d (record_text (total_fields parts.plan.version J)) (Ok tt) → Writes d e [] result
-    → IfErr result (λ fault. IsFinishedOver parts J → WritesFront parts J fault.written a.contents e.contents)
-ends-refused parts J providers decisions a b c d e (Ok done) noted as_many unused header files total end = tt
-ends-refused parts J providers decisions a b c d e (Err fault) noted as_many unused header files total end =
-    λ finished. end-refused parts J providers decisions a b c d e fault finished noted as_many unused header files total end
+    → IfErr result (λ fault. WritesFront parts J fault.written a.contents e.contents)
+ends-refused parts J providers decisions a b c d e (Ok done) finished noted as_many unused header files total end = tt
+ends-refused parts J providers decisions a b c d e (Err fault) finished noted as_many unused header files total end =
+    end-refused parts J providers decisions a b c d e fault finished noted as_many unused header files total end
 
 -- after a fault of the device the writer has failed
 pub ends-device : (d e : At) (result : Result (Unit {0}) WriteFault) → Writes d e [] result → IfErr result (λ fault. fault.cause ≡ Device → e.failed ≡ true)
@@ -282,17 +275,18 @@ pub ends-ok : (a d e : At) (result : Result (Unit {0}) WriteFault) → d.failed 
 ends-ok a d e (Ok done) before end = end.1 ∙ before
 ends-ok a d e (Err fault) before end = tt
 
--- the remittance of a journal that is finished over these terms
-pub finished_written : (parts other : TermsParts) (J K : List Event) (old new : Option (List ℕ)) (result : Result (Unit {0}) WriteFault) → other ≡ parts
-    → IsFinishedOver other J → K ≡ J → OnOk result (IsFinishedOver parts K → WritesReport parts K old new) → OnOk result (WritesReport parts J old new)
-finished_written parts other J K old new (Ok done) same finished alike written =
-    subst (λ L. WritesReport parts L old new) alike (written (subst (λ p. IsFinishedOver p K) same (subst (IsFinishedOver other) (sym alike) finished)))
-finished_written parts other J K old new (Err fault) same finished alike written = tt
+-- a journal that is equal to a finished one, over equal terms, is finished
+pub finished-alike : (parts other : TermsParts) (J K : List Event) → other ≡ parts → IsFinishedOver other J → K ≡ J → IsFinishedOver parts K
+finished-alike parts other J K same finished alike = subst (λ p. IsFinishedOver p K) same (subst (IsFinishedOver other) (sym alike) finished)
 
-pub finished_refused : (parts other : TermsParts) (J K : List Event) (old new : Option (List ℕ)) (result : Result (Unit {0}) WriteFault) → other ≡ parts
-    → IsFinishedOver other J → K ≡ J → IfErr result (λ fault. IsFinishedOver parts K → WritesFront parts K fault.written old new)
-    → IfErr result (λ fault. WritesFront parts J fault.written old new)
-finished_refused parts other J K old new (Ok done) same finished alike refused = tt
-finished_refused parts other J K old new (Err fault) same finished alike refused =
-    subst (λ L. WritesFront parts L fault.written old new) alike
-    (refused (subst (λ p. IsFinishedOver p K) same (subst (IsFinishedOver other) (sym alike) finished)))
+-- what is written of the remittance of an equal journal
+pub front-alike : (parts : TermsParts) (J K : List Event) (written : ℕ) (old new : Option (List ℕ)) → K ≡ J → WritesFront parts K written old new → WritesFront parts J written old new
+front-alike parts J K written old new alike front = subst (λ L. WritesFront parts L written old new) alike front
+
+pub written-alike : (parts : TermsParts) (J K : List Event) (old new : Option (List ℕ)) (result : Result (Unit {0}) WriteFault) → K ≡ J
+    → OnOk result (WritesReport parts K old new) → OnOk result (WritesReport parts J old new)
+written-alike parts J K old new result alike written = subst (λ L. OnOk result (WritesReport parts L old new)) alike written
+
+pub refused-alike : (parts : TermsParts) (J K : List Event) (old new : Option (List ℕ)) (result : Result (Unit {0}) WriteFault) → K ≡ J
+    → IfErr result (λ fault. WritesFront parts K fault.written old new) → IfErr result (λ fault. WritesFront parts J fault.written old new)
+refused-alike parts J K old new result alike refused = subst (λ L. IfErr result (λ fault. WritesFront parts L fault.written old new)) alike refused

@@ -1,6 +1,6 @@
 -- The counts of the records of a run by their status, file by file.
 use Rattle.std.specs.Prelude.{◌≡◌, ◌<◌, ◌+◌, ◌-◌, ◌^◌, ℕ, suc, pos, List, [], get_or, length, map, min, fold, Option, Some, None}
-use Rattle.dtable.specs.declared.table.InputData.{InputData}
+use Rattle.tables.specs.declared.table.InputData.{InputData}
 use Rattle.settlement.specs.declared.outcome.Outcome.{Outcome}
 use Rattle.settlement.specs.declared.outcome.Verdict.{Verdict}
 use Rattle.settlement.specs.declared.outcome.Verdict.TheVariants as verdicts

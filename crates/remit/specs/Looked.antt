@@ -4,7 +4,7 @@ use Rattle.std.specs.Global.{Vec}
 use Rattle.std.specs.Borrow.{Bor}
 use Rattle.std.specs.Option.{option_and_then}
 use Rattle.fixpoint.specs.Number.{greatest_units}
-use Rattle.dtable.specs.Environment.{or_else}
+use Rattle.tables.specs.Environment.{or_else}
 use Rattle.settlement.specs.declared.outcome.Outcome.{Outcome}
 use Rattle.journal.specs.Events.{Filed, accepted_count, accepts}
 use Rattle.journal.specs.declared.event.Event.{Event}

@@ -2,7 +2,7 @@
 use Rattle.std.specs.Prelude.{ℕ, suc, Bool, true, false, List, [], ◌∷◌, ◌++◌, codes, decimal, map, Option, Some, None}
 use Rattle.fixpoint.specs.Money.{money_text}
 use Rattle.feel_tests.specs.Calendar.{year_of, year_text}
-use Rattle.dtable.specs.Plan.{has_families, has_years}
+use Rattle.tables.specs.Plan.{has_families, has_years}
 use Rattle.settlement.specs.Accounts.{family_of}
 use Rattle.settlement.specs.declared.claim.Claim.{Claim}
 use Rattle.settlement.specs.declared.outcome.Outcome.{Outcome}

@@ -1,7 +1,7 @@
 -- The rows of a file, of a reader or of all files, and the writing of their text.
 use Rattle.std.specs.Prelude.{◌≡◌, ℕ, List, ◌++◌, map, Result, Ok, Err}
 use Rattle.std.specs.List.{AllZip}
-use Rattle.dtable.specs.declared.table.InputData.{InputData}
+use Rattle.tables.specs.declared.table.InputData.{InputData}
 use Rattle.intake_csv.specs.Laws.{LieApart}
 use Rattle.intake_csv.specs.Rows.{AreRowsLeft, AreRowsOf, RowsLeft}
 use Rattle.intake_csv.specs.declared.rows.Row.{Row}

@@ -1,7 +1,7 @@
 -- The section of a provider's file in the remittance, which a thread renders into memory.
 use Rattle.std.specs.Prelude.{◌≡◌, ℕ, List, Result, IfOk}
 use Rattle.std.specs.Global.{Vec}
-use Rattle.dtable.specs.declared.table.InputData.{InputData}
+use Rattle.tables.specs.declared.table.InputData.{InputData}
 use Rattle.intake_csv.specs.declared.rows.Row.{Row}
 use Rattle.remit.specs.Records.{Deciding}
 use Rattle.remit.specs.Rows.{IsRead, rows_text}

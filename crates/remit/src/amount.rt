@@ -6,7 +6,7 @@ ghost use Rattle.remit.specs.Amounts.{amount_of, name_of};
 use settlement::{Money, Outcome};
 
 /// An amount of a record.
-#[derive(Clone, Copy, PartialEq, Eq)]
+#[derive(Clone, Copy)]
 pub enum Amount {
     Allowed,
     Deductible,

@@ -17,7 +17,7 @@ use settlement::{Outcome, Verdict};
 use std::alloc::{AllocError, Global};
 
 /// The status of a record in the remittance.
-#[derive(Clone, Copy, PartialEq, Eq)]
+#[derive(Clone, Copy)]
 pub enum RecordStatus {
     /// The claim is covered, and its amounts are settled.
     Paid,
@@ -48,7 +48,7 @@ impl RecordStatus {
 }
 
 /// The number of records with each status. A count that reaches 2^64 - 1 stays there.
-#[derive(Clone, Copy, PartialEq, Eq)]
+#[derive(Clone, Copy)]
 pub struct RecordCounts {
     pub paid: u64,
     pub denied: u64,

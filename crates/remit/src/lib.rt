@@ -22,4 +22,4 @@ mod sums;
 
 pub use counts::{FileCounts, RecordCounts, RecordStatus, RefusalCount, RunCounts, count_run};
 pub use faults::{WriteCause, WriteFault};
-pub use report::{write_journal, write_journal_by_threads, write_report, write_report_by_threads};
+pub use report::{write_report, write_report_by_threads};

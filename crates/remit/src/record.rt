@@ -4,7 +4,7 @@ ghost use Rattle.csv.specs.Records.{fields_of};
 ghost use Rattle.faults.specs.ReasonText.{reason_text};
 ghost use Rattle.feel_tests.specs.Calendar.{year_of, year_text};
 ghost use Rattle.fixpoint.specs.Money.{money_text};
-ghost use Rattle.dtable.specs.Plan.{has_families, has_years};
+ghost use Rattle.tables.specs.Plan.{has_families, has_years};
 ghost use Rattle.journal.specs.Events.{accepted_count as accepted_in};
 ghost use Rattle.journal.specs.declared.event.Event.{Event as AnyEvent};
 ghost use Rattle.settlement.specs.Accounts.{family_of};
@@ -23,12 +23,12 @@ use crate::decisions::Decisions;
 use crate::field_texts::{fault_text, join_remarks, reason_text, sum_text};
 use crate::sums::Sums;
 use csv::ByteRecord;
-use dtable::{has_families, has_years};
 use feel_tests::{day_year, year_text};
 use intake_csv::{CsvRecord, IdColumns, RowFault, RowSummary};
 use itoa::Buffer;
 use settlement::{Money, Outcome, Reason, Verdict};
 use std::alloc::{AllocError, Global};
+use tables::{has_families, has_years};
 
 /// The names of the fields before the identifiers. The record of totals fills these fields too.
 const FIELDS_BEFORE: [&[u8]; 2] = [b"provider", b"record"];

@@ -2,12 +2,11 @@
 //! record of totals.
 ghost use Rattle.std.specs.Prelude.{◌≡◌, ◌≤◌, ◌-◌, [], get_or, length, take, IfErr, OnOk, true};
 ghost use Rattle.std.specs.Thread.{IsSync};
-ghost use Rattle.dtable.specs.Plan.{PlanParts};
+ghost use Rattle.tables.specs.Plan.{PlanParts};
 ghost use Rattle.fixpoint.specs.Out.{has_failed, writer_of};
 ghost use Rattle.journal.specs.Events.{accepted_count};
 ghost use Rattle.intake_csv.specs.RowSummary.{IsSummaryOf};
 ghost use Rattle.intake_csv.specs.declared.rows.Row.{Row as AnyRow};
-ghost use Rattle.claim_gate.specs.Terms.{IsFinishedOver};
 ghost use Rattle.remit.specs.RecordWriter.{IsUnused, Writes, at, gathered_of};
 ghost use Rattle.remit.specs.Looked.{looked_up};
 ghost use Rattle.remit.specs.Sections.{MayBePart};
@@ -42,7 +41,6 @@ use std::thread::{Threads, join_mut};
 /// Returns a fault with the cause `Device` if the writer fails, or with the cause `OutOfMemory` if
 /// memory runs out. The writer has then received exactly the first bytes of the remittance, and the
 /// fault has their number.
-#[tactic(auto, using(crate::proofs::Reporting::finished_written, crate::proofs::Reporting::finished_refused))]
 pub fn write_report<W: Write>(
     alloc: Global,
     terms: &Terms,
@@ -60,7 +58,7 @@ pub fn write_report<W: Write>(
         fault.cause ≡ OutOfMemory → has_failed out.new ≡ has_failed out.old) }
     ensures ok_failed { OnOk result (has_failed out.new ≡ has_failed out.old) }
 {
-    write_journal(alloc, terms, batch.journal(), out)
+    write_by(&InTurn, alloc, terms, batch, out)
 }
 
 /// Writes the remittance of a finished run, with one more thread for each file after the first.
@@ -72,7 +70,6 @@ pub fn write_report<W: Write>(
 /// that file in pieces when their turn comes.
 ///
 /// The bytes and the errors are those of `write_report`.
-#[tactic(auto, using(crate::proofs::Reporting::finished_written, crate::proofs::Reporting::finished_refused))]
 pub fn write_report_by_threads<R: Threads + Sync, W: Write>(
     rt: &R,
     alloc: Global,
@@ -91,28 +88,29 @@ pub fn write_report_by_threads<R: Threads + Sync, W: Write>(
         fault.cause ≡ OutOfMemory → has_failed out.new ≡ has_failed out.old) }
     ensures ok_failed { OnOk result (has_failed out.new ≡ has_failed out.old) }
 {
-    write_journal_by_threads(rt, alloc, terms, batch.journal(), out)
+    write_by(&ByThreads { rt }, alloc, terms, batch, out)
 }
 
-/// Writes the remittance of a journal that is finished over these terms, as `write_report` does for
-/// a run. For any other journal, only the state of the writer is specified.
-pub fn write_journal<W: Write>(
+fn write_by<H: Rendering, W: Write>(
+    how: &H,
     alloc: Global,
     terms: &Terms,
-    journal: &[Event],
+    batch: &Batch,
     out: &mut Out<W>,
 ) -> Result<(), WriteFault>
-    ensures written { OnOk result (IsFinishedOver terms.now journal.now
-        → WritesReport terms.now journal.now
+    requires ready { H.is_ready how.now }
+    requires same_terms { batch.now.terms ≡ terms.now }
+    ensures written { OnOk result (WritesReport terms.now batch.now.journal
         (W.contents (writer_of out.old)) (W.contents (writer_of out.new))) }
-    ensures refused { IfErr result (λ fault. IsFinishedOver terms.now journal.now
-        → WritesFront terms.now journal.now fault.written
+    ensures refused { IfErr result (λ fault.
+        WritesFront terms.now batch.now.journal fault.written
         (W.contents (writer_of out.old)) (W.contents (writer_of out.new))) }
     ensures device { IfErr result (λ fault. fault.cause ≡ Device → has_failed out.new ≡ true) }
     ensures memory { IfErr result (λ fault.
         fault.cause ≡ OutOfMemory → has_failed out.new ≡ has_failed out.old) }
     ensures ok_failed { OnOk result (has_failed out.new ≡ has_failed out.old) }
 {
+    let journal = batch.journal();
     let files = terms.files();
     let Ok(decisions) = Decisions::new(alloc, terms, files.len(), journal) else {
         return Err(WriteFault {
@@ -122,43 +120,82 @@ pub fn write_journal<W: Write>(
     };
     let mut report = Report::new(alloc, &decisions);
     report.write_header(terms, out)?;
-    report.write_files(terms, files.len(), out)?;
+    how.write_files(terms, files.len(), &mut report, out)?;
     report.write_total(terms, journal, out)?;
     report.finish(out)
 }
 
-/// Writes the remittance of a journal as `write_journal` does, with one more thread for each file
-/// after the first.
-pub fn write_journal_by_threads<R: Threads + Sync, W: Write>(
-    rt: &R,
-    alloc: Global,
-    terms: &Terms,
-    journal: &[Event],
-    out: &mut Out<W>,
-) -> Result<(), WriteFault>
-    ensures written { OnOk result (IsFinishedOver terms.now journal.now
-        → WritesReport terms.now journal.now
-        (W.contents (writer_of out.old)) (W.contents (writer_of out.new))) }
-    ensures refused { IfErr result (λ fault. IsFinishedOver terms.now journal.now
-        → WritesFront terms.now journal.now fault.written
-        (W.contents (writer_of out.old)) (W.contents (writer_of out.new))) }
-    ensures device { IfErr result (λ fault. fault.cause ≡ Device → has_failed out.new ≡ true) }
-    ensures memory { IfErr result (λ fault.
-        fault.cause ≡ OutOfMemory → has_failed out.new ≡ has_failed out.old) }
-    ensures ok_failed { OnOk result (has_failed out.new ≡ has_failed out.old) }
-{
-    let files = terms.files();
-    let Ok(decisions) = Decisions::new(alloc, terms, files.len(), journal) else {
-        return Err(WriteFault {
-            written: 0,
-            cause: WriteCause::OutOfMemory,
-        });
-    };
-    let mut report = Report::new(alloc, &decisions);
-    report.write_header(terms, out)?;
-    write_files_by_threads(rt, terms, files.len(), &mut report, out)?;
-    report.write_total(terms, journal, out)?;
-    report.finish(out)
+// How the rows of the files are rendered and written.
+trait Rendering {
+    ghost use Rattle.std.specs.Prelude.{◌≡◌, ◌≤◌, length};
+    ghost use Rattle.fixpoint.specs.Out.{has_failed, writer_of};
+    ghost use Rattle.remit.specs.RecordWriter.{at};
+    ghost use Rattle.remit.specs.Looked.{looked_up};
+    ghost use Rattle.remit.specs.Rows.{WritesFiles};
+
+    // What the writing requires of the type parameters of an implementation.
+    ghost is_ready: { Self → Type 0 };
+
+    fn write_files<W: Write>(
+        &self,
+        terms: &Terms,
+        providers: usize,
+        report: &mut Report,
+        out: &mut Out<W>,
+    ) -> Result<(), WriteFault>
+        requires ready { is_ready self.now }
+        requires least { 1 ≤ providers }
+        requires all { providers ≡ length terms.now.files }
+        ensures writes { WritesFiles (looked_up report.old.decisions.now) terms.now.plan.names
+            terms.now.files
+            (at (W.contents (writer_of out.old)) (has_failed out.old) report.old.writer)
+            (at (W.contents (writer_of out.new)) (has_failed out.new) report.new.writer) result }
+        ensures decisions { report.new.decisions ≡ report.old.decisions };
+}
+
+// One file after another, by the caller's thread.
+#[derive(Clone, Copy)]
+struct InTurn;
+
+impl Rendering for InTurn {
+    ghost use Rattle.std.specs.Prelude.{◌≡◌};
+
+    ghost is_ready = { λ how. how ≡ how };
+
+    fn write_files<W: Write>(
+        &self,
+        terms: &Terms,
+        providers: usize,
+        report: &mut Report,
+        out: &mut Out<W>,
+    ) -> Result<(), WriteFault> {
+        for place in 0..providers {
+            report.write_file(terms, place + 1, out)?;
+        }
+        Ok(())
+    }
+}
+
+// The sections of the files after the first are rendered by other threads.
+#[derive(Drop)]
+struct ByThreads<'r, R> {
+    rt: &'r R,
+}
+
+impl<R: Threads + Sync> Rendering for ByThreads<'_, R> {
+    ghost use Rattle.std.specs.Thread.{IsSync};
+
+    ghost is_ready = { λ how. IsSync R.row };
+
+    fn write_files<W: Write>(
+        &self,
+        terms: &Terms,
+        providers: usize,
+        report: &mut Report,
+        out: &mut Out<W>,
+    ) -> Result<(), WriteFault> {
+        write_files_by_threads(self.rt, terms, providers, report, out)
+    }
 }
 
 // Writes the rows of the first `providers` files: those of the first file row by row, and those of
@@ -278,25 +315,6 @@ impl<'d, 'j> Report<'d, 'j> {
             return Err(self.writer.no_memory());
         }
         self.writer.write(&self.line, out)
-    }
-
-    fn write_files<W: Write>(
-        &mut self,
-        terms: &Terms,
-        providers: usize,
-        out: &mut Out<W>,
-    ) -> Result<(), WriteFault>
-        requires { providers ≡ length terms.now.files }
-        ensures writes { WritesFiles (looked_up self.old.decisions.now) terms.now.plan.names
-            terms.now.files
-            (at (W.contents (writer_of out.old)) (has_failed out.old) self.old.writer)
-            (at (W.contents (writer_of out.new)) (has_failed out.new) self.new.writer) result }
-        ensures decisions { self.new.decisions ≡ self.old.decisions }
-    {
-        for place in 0..providers {
-            self.write_file(terms, place + 1, out)?;
-        }
-        Ok(())
     }
 
     // Writes the rows of a provider's file from their section, and frees its memory. Without a

@@ -11,7 +11,7 @@ use fixpoint::{BoundedBuffer, Out};
 use std::alloc::Global;
 
 /// A section could not be kept in memory: it would exceed its limit, or memory ran out.
-#[derive(Clone, Copy, PartialEq, Eq, Drop)]
+#[derive(Clone, Copy, Drop)]
 pub struct SectionTooLarge;
 
 /// The number of bytes of a section that are buffered for each byte of the file. Without remarks,

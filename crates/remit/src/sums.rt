@@ -13,7 +13,7 @@ use settlement::{Money, Outcome, Verdict};
 
 /// The sums of the amounts over paid claims, in units and in the order of the amounts. The sums of
 /// the longest possible journal fit 128 bits.
-#[derive(Clone, Copy, PartialEq, Eq)]
+#[derive(Clone, Copy)]
 pub struct Sums {
     units: [u128; AMOUNTS.len()],
 }

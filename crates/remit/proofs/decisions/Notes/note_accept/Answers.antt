@@ -1,4 +1,5 @@
-use Rattle.std.proofs.Common.{◌≡◌, length, take, vec_len, rules}
+use Rattle.std.proofs.Common.{◌≡◌, length, take, vec_len, rules, arith}
+use Rattle.std.proofs.lemmas.Grind.{common_steps}
 use Rattle.std.proofs.lemmas.Result.{on_ok_weaker}
 use Rattle.remit.proofs.Noting.{noted-accept, noted-next}
 use Rattle.remit.proofs.decisions.Notes.note_accept.Goals as goal
@@ -14,3 +15,6 @@ returns c =
     (noted-accept J providers (take place J) c.index-journal-place.result c.in-Accept.provider c.in-Accept.place c.args.self.now _ c.in-Accept.is
     c.in_ok-push.ensures.items (rw (c.len-position.ensures, size) at notes) noted))
     c.note_position.ensures
+
+pub returns-in_default : goal.returns-in_default
+returns-in_default c = grind (arith, common_steps)

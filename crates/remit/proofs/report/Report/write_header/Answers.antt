@@ -1,5 +1,5 @@
 use Rattle.std.proofs.Common.{◌≡◌, ◌∙◌, ap, false, is_err}
-use Rattle.dtable.specs.Plan.{PlanParts}
+use Rattle.tables.specs.Plan.{PlanParts}
 use Rattle.remit.specs.Records.{header_fields}
 use Rattle.remit.specs.Report.{record_text}
 use Rattle.remit.proofs.Holding.{no-memory, on-ok}
