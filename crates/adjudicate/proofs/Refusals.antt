@@ -3,7 +3,7 @@ use Rattle.std.proofs.Common.{◌≢◌, ℕ, List, Option, Result, IfErr, OnOk}
 use Rattle.std.specs.Io.KnownBytes.{Appends}
 use Rattle.faults.specs.declared.plan_fault.PlanCause.TheVariants as cause
 use Rattle.faults.specs.declared.plan_fault.PlanFault.{PlanFault}
-use Rattle.dtable.specs.Plan.{PlanParts}
+use Rattle.tables.specs.Plan.{PlanParts}
 use Rattle.dtable.specs.PlanFile.{IsPlanText}
 use Rattle.evaluation.specs.declared.stop.ValueStop.{ValueStop}
 use Rattle.evaluation.specs.Stop.{IsStopOfPlan, RefusesPlan, PutsUntil, WritesText, WritesUntil}

@@ -8,8 +8,8 @@ use Rattle.std.proofs.lemmas.List.{length-map}
 use Rattle.std.proofs.lemmas.List.Folds.{flat_map-map}
 use Rattle.std.proofs.lemmas.Nat.{div-mul-add, mod-mul-add}
 use Rattle.std.proofs.lemmas.Option.{none-some, same_Some, get_or_from_slice_get}
-use Rattle.dtable.specs.declared.table.Table.{Table}
-use Rattle.dtable.specs.Plan.{PlanParts}
+use Rattle.tables.specs.declared.table.Table.{Table}
+use Rattle.tables.specs.Plan.{PlanParts}
 use Rattle.cutplan.specs.declared.region.Region.{Region}
 use Rattle.cutplan.specs.Check.{cells, gaps}
 use Rattle.cutplan.specs.Numbered.{cell_limit, cells_of, gaps_of}

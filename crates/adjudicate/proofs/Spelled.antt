@@ -1,6 +1,6 @@
 -- The output for a plan is the output for the text that denotes the plan.
 use Rattle.std.proofs.Common.{◌≡◌, ℕ, List}
-use Rattle.dtable.specs.Plan.{PlanParts}
+use Rattle.tables.specs.Plan.{PlanParts}
 use Rattle.dtable.specs.PlanFile.{IsPlanText}
 use Rattle.adjudicate.specs.declared.check.report.Findings.{Findings}
 use Rattle.adjudicate.specs.declared.check.report.Findings.TheVariants.{All, Errors}

@@ -3,7 +3,7 @@
 use Rattle.std.specs.Prelude.{◌≡◌, ℕ, ◌+◌, ◌/◌, ◌%◌, ◌++◌, ◌==◌, Bool, if◌then◌else◌, List, [], ◌∷◌, length, map, flat_map, min, max, codes, decimal, Option, Some, None, get_or}
 use Rattle.std.specs.Global.{Vec}
 use Rattle.std.specs.List.{join_by}
-use Rattle.dtable.specs.Plan.{PlanParts}
+use Rattle.tables.specs.Plan.{PlanParts}
 use Rattle.cutplan.specs.declared.region.Region.{Region}
 use Rattle.cutplan.specs.Check.{cells}
 use Rattle.cutplan.specs.Numbered.{cell_limit}

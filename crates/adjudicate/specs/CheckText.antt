@@ -2,7 +2,7 @@
 use Rattle.std.specs.Prelude.{◌≡◌, ℕ, ◌++◌, Bool, if◌then◌else◌, List, [], ◌∷◌, length, codes, decimal, flat_map, nat_lt}
 use Rattle.std.specs.List.{join_by, range_with_len, sum_by}
 use Rattle.feel_tests.specs.Value.{literal_text}
-use Rattle.dtable.specs.Plan.{PlanParts}
+use Rattle.tables.specs.Plan.{PlanParts}
 use Rattle.dtable.specs.PlanFile.{IsPlanText}
 use Rattle.cutplan.specs.declared.region.Region.{Region}
 use Rattle.cutplan.specs.declared.region.Region.TheVariants.{Below, At, Between, Above, Other, Every}

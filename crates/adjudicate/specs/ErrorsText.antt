@@ -1,7 +1,7 @@
 -- What the command `check` prints for a plan's text if it reports only the gaps and overlaps that are errors under the table's hit policy.
 use Rattle.std.specs.Prelude.{◌≡◌, ℕ, ◌++◌, if◌then◌else◌, List, [], length, filter, flat_map}
 use Rattle.std.specs.List.{sum_by}
-use Rattle.dtable.specs.Plan.{PlanParts}
+use Rattle.tables.specs.Plan.{PlanParts}
 use Rattle.dtable.specs.PlanFile.{IsPlanText}
 use Rattle.cutplan.specs.declared.region.Region.{Region}
 use Rattle.cutplan.specs.Numbered.{overlaps_of}

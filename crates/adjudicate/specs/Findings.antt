@@ -1,7 +1,7 @@
 -- The texts of `check` by the findings that it reports: all of them, or only the errors.
 use Rattle.std.specs.Prelude.{ℕ, ◌++◌, Bool, true, if◌then◌else◌, List, [], length, flat_map}
 use Rattle.std.specs.List.{sum_by}
-use Rattle.dtable.specs.Plan.{PlanParts}
+use Rattle.tables.specs.Plan.{PlanParts}
 use Rattle.cutplan.specs.declared.region.Region.{Region}
 use Rattle.cutplan.specs.Numbered.{overlaps_of}
 use Rattle.cutplan.specs.Violations.{gap_is_error}

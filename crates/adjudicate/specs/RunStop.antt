@@ -1,7 +1,7 @@
 -- The errors of the command `run`, and the bytes that its writer has received before each of them.
 use Rattle.std.specs.Prelude.{◌≡◌, ◌≢◌, ◌⊎◌, ◌↔◌, ℕ, List, Option}
 use Rattle.std.specs.Io.KnownBytes.{Keeps}
-use Rattle.dtable.specs.Plan.{PlanParts}
+use Rattle.tables.specs.Plan.{PlanParts}
 use Rattle.dtable.specs.PlanFile.{IsPlanText}
 use Rattle.claim_gate.specs.TermsFault.{HasTermsFault}
 use Rattle.claim_gate.specs.Terms.{TermsParts}

@@ -1,7 +1,7 @@
 -- What the command `run` writes: the remittance of one journal.
 use Rattle.std.specs.Prelude.{◌≡◌, ℕ, List, Option, length, take}
 use Rattle.std.specs.Io.KnownBytes.{Appends}
-use Rattle.dtable.specs.Plan.{PlanParts}
+use Rattle.tables.specs.Plan.{PlanParts}
 use Rattle.dtable.specs.PlanFile.{IsPlanText}
 use Rattle.journal.specs.declared.event.Event.{Event}
 use Rattle.journal.specs.Lawful.{Finished}

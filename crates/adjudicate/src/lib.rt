@@ -6,7 +6,7 @@
 //! settles claims and writes their remittance; `counting` keeps the counts of its records. `stop`
 //! has every error of the commands, with its line and its exit status.
 //!
-//! Plans and their evaluation come from `dtable`, the check of a plan and the violations of its hit
+//! Plans and their evaluation come from `tables`, the check of a plan and the violations of its hit
 //! policies come from `cutplan`, cells and values come from `feel_tests`, and numbers and the
 //! writer come from `fixpoint`. A run goes from the texts to their terms (`claim_gate`), to a
 //! finished journal (`crew`) and to its remittance (`remit`).
@@ -27,10 +27,11 @@ pub use check::report::Findings;
 pub use check::{do_check, do_errors_check, do_findings_check};
 pub use counting::Counting;
 pub use crew::WORKERS_LIMIT;
-pub use dtable::{Name, PLAN_LIMIT_BYTES};
+pub use dtable::PLAN_LIMIT_BYTES;
 pub use evaluation::{ArgumentFault, LINE_LIMIT_BYTES, ValueStop};
 pub use intake_csv::FILE_LIMIT_BYTES;
 pub use remit::{FileCounts, RecordCounts, RefusalCount, RunCounts};
 pub use run::{RunInput, do_counted_run, do_run};
 pub use stop::Stop;
+pub use tables::Name;
 pub use value::do_value;

@@ -13,12 +13,13 @@ ghost use Rattle.adjudicate.specs.Stop.{failed_after};
 use crate::counting::Counting;
 use crate::stop::Stop;
 use claim_gate::{Terms, claim_lists_exist};
-use dtable::{Plan, read_plan};
+use dtable::read_plan;
 use fixpoint::Out;
 use remit::write_report_by_threads;
 use std::io::Write;
 use std::sync::Wait;
 use std::thread::Threads;
+use tables::Plan;
 
 /// The input of a run.
 #[derive(Clone, Copy)]

@@ -14,20 +14,20 @@ use Rattle.fixpoint.specs.Number.{greatest_units}
 use Rattle.feel_tests.specs.declared.kind.Kind.TheVariants as kinds
 use Rattle.feel_tests.specs.declared.value.Value.{Value}
 use Rattle.feel_tests.specs.declared.value.Value.TheVariants.{Number}
-use Rattle.dtable.specs.declared.environment.Answer.{Answer}
-use Rattle.dtable.specs.declared.environment.Answer.TheVariants.{One, Many}
+use Rattle.tables.specs.declared.environment.Answer.{Answer}
+use Rattle.tables.specs.declared.environment.Answer.TheVariants.{One, Many}
 use Rattle.faults.specs.declared.fault.Fault.{Fault}
-use Rattle.dtable.specs.declared.hit.Hit.{Hit}
-use Rattle.dtable.specs.declared.hit.Hit.TheVariants as hits
-use Rattle.dtable.specs.declared.inputs.Slot.{Slot}
-use Rattle.dtable.specs.declared.table.Output.{Output}
-use Rattle.dtable.specs.declared.table.Rule.{Rule}
-use Rattle.dtable.specs.declared.table.Table.{Table}
-use Rattle.dtable.specs.Environment.{Environment, env, answers_of, and_then, inside, number_after, table_value, answer_in, answer_of, or_else}
-use Rattle.dtable.specs.HitPolicy.{TableValue, ones, lists, column_of, no_match_value, unique, any, agree, of_rule, numbers_of, number_answer, aggregate_value, count_units, match_count, by_hit}
-use Rattle.dtable.specs.Matching.{matching, rule_matches, cells_hold, first_outside}
-use Rattle.dtable.specs.Plan.{PlanParts, IsPlan, rule_fits, satisfies_constraints, same_kind}
-use Rattle.dtable.specs.Priority.{entries_of, highest_rule, in_priority_order, precedes}
+use Rattle.tables.specs.declared.hit.Hit.{Hit}
+use Rattle.tables.specs.declared.hit.Hit.TheVariants as hits
+use Rattle.tables.specs.declared.inputs.Slot.{Slot}
+use Rattle.tables.specs.declared.table.Output.{Output}
+use Rattle.tables.specs.declared.table.Rule.{Rule}
+use Rattle.tables.specs.declared.table.Table.{Table}
+use Rattle.tables.specs.Environment.{Environment, env, answers_of, and_then, inside, number_after, table_value, answer_in, answer_of, or_else}
+use Rattle.tables.specs.HitPolicy.{TableValue, ones, lists, column_of, no_match_value, unique, any, agree, of_rule, numbers_of, number_answer, aggregate_value, count_units, match_count, by_hit}
+use Rattle.tables.specs.Matching.{matching, rule_matches, cells_hold, first_outside}
+use Rattle.tables.specs.Plan.{PlanParts, IsPlan, rule_fits, satisfies_constraints, same_kind}
+use Rattle.tables.specs.Priority.{entries_of, highest_rule, in_priority_order, precedes}
 use Rattle.evaluation.specs.ValueText.{AreAnswered}
 
 -- the value of a table with these answers

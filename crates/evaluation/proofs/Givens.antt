@@ -9,9 +9,9 @@ use Rattle.std.specs.Option.{is_some, option_copied, option_map, option_and_then
 use Rattle.feel_tests.specs.declared.kind.Kind.{Kind}
 use Rattle.feel_tests.specs.declared.value.Value.{Value}
 use Rattle.feel_tests.specs.Value.{kind_of}
-use Rattle.dtable.specs.declared.inputs.Slot.{Slot}
-use Rattle.dtable.specs.declared.table.InputData.{InputData}
-use Rattle.dtable.specs.Inputs.{value_at, kind_at, empty_slots, fill_slot, Takes}
+use Rattle.tables.specs.declared.inputs.Slot.{Slot}
+use Rattle.tables.specs.declared.table.InputData.{InputData}
+use Rattle.tables.specs.Inputs.{value_at, kind_at, empty_slots, fill_slot, Takes}
 use Rattle.evaluation.specs.Arguments.{argument_texts, Assignment, IsSplit, NamesData, IsArgument, EachArgument, AreApart, Gives, assigned}
 
 -- a reference that is found points to a value

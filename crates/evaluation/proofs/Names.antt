@@ -3,7 +3,7 @@ use Rattle.std.proofs.Common.{◌≡◌, ◌≢◌, ℕ, ◌+◌, ◌<◌, ◌�
 use Rattle.std.proofs.lemmas.List.{length-map}
 use Rattle.std.specs.Option.{option_map}
 use Rattle.std.proofs.lemmas.Option.{slice_get-map, slice_get_read, slice_get-get_or, same_Some}
-use Rattle.dtable.specs.declared.table.InputData.{InputData}
+use Rattle.tables.specs.declared.table.InputData.{InputData}
 use Rattle.dtable.specs.Scope.{data_names}
 
 -- the name at an index

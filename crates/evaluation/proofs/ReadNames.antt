@@ -1,9 +1,9 @@
 -- The names that the tables of a plan read.
 use Rattle.std.proofs.Common.{ℕ, ◌≤◌, List, length, arith}
-use Rattle.dtable.specs.declared.inputs.Slot.{Slot}
-use Rattle.dtable.specs.Inputs.{IsReady}
-use Rattle.dtable.specs.Plan.{PlanParts, IsPlan}
-use Rattle.dtable.proofs.NeededNames.{within_names}
+use Rattle.tables.specs.declared.inputs.Slot.{Slot}
+use Rattle.tables.specs.Inputs.{IsReady}
+use Rattle.tables.specs.Plan.{PlanParts, IsPlan}
+use Rattle.tables.proofs.NeededNames.{within_names}
 use Rattle.evaluation.specs.Arguments.{IsReadyBelow}
 
 -- the tables of a plan read only its names

@@ -4,14 +4,14 @@ use Rattle.std.specs.Io.KnownBytes.{Appends}
 use Rattle.std.proofs.lemmas.Result.{on_ok_weaker, IfErr-weaker}
 use Rattle.faults.specs.declared.fault.Fault.{Fault}
 use Rattle.faults.specs.declared.fault.Fault.TheVariants as faults
-use Rattle.dtable.specs.declared.inputs.Slot.{Slot}
+use Rattle.tables.specs.declared.inputs.Slot.{Slot}
 use Rattle.faults.specs.declared.plan_fault.PlanCause.TheVariants as cause
 use Rattle.faults.specs.declared.plan_fault.PlanFault.{PlanFault}
-use Rattle.dtable.specs.declared.table.InputData.{InputData}
-use Rattle.dtable.specs.Environment.{env}
-use Rattle.dtable.specs.HitPolicy.{IsFaultOf}
-use Rattle.dtable.specs.Inputs.{IsReady}
-use Rattle.dtable.specs.Plan.{PlanParts}
+use Rattle.tables.specs.declared.table.InputData.{InputData}
+use Rattle.tables.specs.Environment.{env}
+use Rattle.tables.specs.HitPolicy.{IsFaultOf}
+use Rattle.tables.specs.Inputs.{IsReady}
+use Rattle.tables.specs.Plan.{PlanParts}
 use Rattle.dtable.specs.PlanFile.{IsPlanText}
 use Rattle.evaluation.specs.declared.stop.ArgumentFault.{ArgumentFault}
 use Rattle.evaluation.specs.declared.stop.ValueStop.{ValueStop}

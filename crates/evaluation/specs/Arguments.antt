@@ -4,10 +4,10 @@ use Rattle.std.specs.Borrow.{Bor}
 use Rattle.feel_tests.specs.declared.value.Value.{Value}
 use Rattle.feel_tests.specs.Cell.{SpellsValue}
 use Rattle.feel_tests.specs.Value.{kind_of}
-use Rattle.dtable.specs.declared.inputs.Slot.{Slot}
-use Rattle.dtable.specs.declared.table.InputData.{InputData}
-use Rattle.dtable.specs.declared.table.Table.{Table}
-use Rattle.dtable.specs.Inputs.{needs, value_at, kind_at}
+use Rattle.tables.specs.declared.inputs.Slot.{Slot}
+use Rattle.tables.specs.declared.table.InputData.{InputData}
+use Rattle.tables.specs.declared.table.Table.{Table}
+use Rattle.tables.specs.Inputs.{needs, value_at, kind_at}
 
 -- the texts that references to arguments point to
 abbrev pub argument_texts : List (Bor (List ℕ)) → List (List ℕ)

@@ -11,15 +11,15 @@ use Rattle.feel_tests.specs.declared.value.Value.{Value}
 use Rattle.feel_tests.specs.Cell.{SpellsValue}
 use Rattle.faults.specs.declared.fault.Fault.{Fault}
 use Rattle.faults.specs.declared.fault.Fault.TheVariants as faults
-use Rattle.dtable.specs.declared.inputs.Slot.{Slot}
+use Rattle.tables.specs.declared.inputs.Slot.{Slot}
 use Rattle.faults.specs.declared.plan_fault.PlanCause.{PlanCause}
 use Rattle.faults.specs.declared.plan_fault.PlanCause.TheVariants as cause
 use Rattle.faults.specs.declared.plan_fault.PlanFault.{PlanFault}
-use Rattle.dtable.specs.declared.table.InputData.{InputData}
+use Rattle.tables.specs.declared.table.InputData.{InputData}
 use Rattle.faults.specs.PlanCauseNumber.{number_of as plan_cause_number}
-use Rattle.dtable.specs.Environment.{env}
-use Rattle.dtable.specs.Inputs.{IsReady, value_at}
-use Rattle.dtable.specs.Plan.{PlanParts}
+use Rattle.tables.specs.Environment.{env}
+use Rattle.tables.specs.Inputs.{IsReady, value_at}
+use Rattle.tables.specs.Plan.{PlanParts}
 use Rattle.dtable.specs.PlanFile.{IsPlanText}
 use Rattle.dtable.specs.Scope.{data_names}
 use Rattle.faults.specs.ReasonText.{reason_text}

@@ -4,7 +4,7 @@
 //! `value` reads the arguments, evaluates the tables and writes a line for each output. `stop` has
 //! every error of the command, with its line and its exit status.
 //!
-//! Plans and their evaluation come from `dtable`, cells and values come from `feel_tests`, and
+//! Plans and their evaluation come from `tables`, cells and values come from `feel_tests`, and
 //! numbers and the writer come from `fixpoint`. `faults` has the texts for faults of the tables and
 //! the trait that the errors of all commands implement.
 //!

@@ -6,11 +6,12 @@ ghost use Rattle.evaluation.specs.Stop.{IsStopOfArgument, argument_fault_number,
 
 pub mod line;
 
-use dtable::{Fault, Name, PlanCause, PlanFault};
+use dtable::{PlanCause, PlanFault};
 use faults::{LINE_LIMIT_BYTES, Refusal};
 use feel_tests::{CellCause, CellFault};
 use line::ErrorLine;
 use std::alloc::{AllocError, AllocFailed};
+use tables::{Fault, Name};
 use thiserror::Error;
 
 /// The reason why an argument gives no value.

@@ -13,10 +13,11 @@ pub mod text;
 use crate::output::put_text;
 use crate::stop::ValueStop;
 use arguments::{first_missing, read_arguments};
-use dtable::{Name, Plan, Valuer, read_plan};
+use dtable::read_plan;
 use fixpoint::Out;
 use std::alloc::Global;
 use std::io::Write;
+use tables::{Name, Plan, Valuer};
 use text::value_lines;
 
 /// Evaluates the plan's tables for the arguments, each of the form `NAME=LITERAL`, and writes the

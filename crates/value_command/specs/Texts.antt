@@ -3,7 +3,7 @@ use Rattle.std.specs.Prelude.{ℕ, List, Option, None, Some}
 use Rattle.clap.specs.declared.parser.matches.ArgMatches.{ArgMatches}
 use Rattle.console.specs.Reading.{IsReadUpTo}
 use Rattle.console.specs.declared.names.TheConstants.{PLAN}
-use Rattle.dtable.specs.Limits.{plan_limit_bytes}
+use Rattle.tables.specs.Limits.{plan_limit_bytes}
 use Rattle.value_command.specs.Words.{word_at}
 
 -- for each name the whole text, if it is known

@@ -9,11 +9,11 @@ ghost use Rattle.adjudicate.specs.Findings.{overlaps_in, reports_gaps};
 ghost use Rattle.adjudicate.specs.CheckReport.{IsReported, IsReportedOf, column_text, column_texts, column_texts_if, marked_region, reported_places};
 
 use cutplan::{Region, cell_count, check_table, gap_is_error, overlap_is_error};
-use dtable::{Plan, Sequence};
 use faults::Ordinal;
 use feel_tests::{Literals, Value, append_joined};
 use std::alloc::{AllocError, Global};
 use std::marker::Model;
+use tables::{Plan, Sequence};
 
 /// The gaps and overlaps that a check reports.
 #[derive(Clone, Copy)]

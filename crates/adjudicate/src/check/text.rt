@@ -10,12 +10,12 @@ ghost use Rattle.adjudicate.specs.Findings.{text_in};
 ghost use Rattle.adjudicate.specs.CheckReport.{cell_text, reported_gap_line, reported_lines, reported_table_lines, reported_text, reported_wide_lines};
 
 use super::report::{CheckReport, ColumnText, Findings, TableReport, check_report};
-use dtable::Plan;
 use faults::Ordinal;
 use fixpoint::{BufferedOut, Out, ShortWrite};
 use itoa::Buffer;
 use std::alloc::{AllocError, Global};
 use std::io::{Write, sink};
+use tables::Plan;
 
 /// Checks a plan. No real report has `usize::MAX` bytes; after the test of its length, the text is cut
 /// only if the writer fails.

@@ -5,11 +5,12 @@ ghost use Rattle.faults.specs.ReasonText.{reason_text};
 ghost use Rattle.evaluation.specs.Stop.{plan_fault_text, argument_fault_text, cell_fault_text, fault_text};
 
 use super::ArgumentFault;
-use dtable::{Fault, PlanCause, PlanFault};
+use dtable::{PlanCause, PlanFault};
 use faults::{LINE_LIMIT_BYTES, Reason};
 use feel_tests::CellFault;
 use itoa::Buffer;
 use std::marker::Model;
+use tables::Fault;
 
 /// The beginning of a line, of at most `LINE_LIMIT_BYTES` bytes. Contracts see it as a list of
 /// bytes.

@@ -1,15 +1,15 @@
 //! The arguments `NAME=LITERAL`: the values that they give, and the first value that is missing.
 
 ghost use Rattle.std.specs.Prelude.{◌≡◌, Some, None, IfOk, IfErr, IfSome, IfNone, slice_get, Contains};
-ghost use Rattle.dtable.specs.Inputs.{IsReady, value_at};
+ghost use Rattle.tables.specs.Inputs.{IsReady, value_at};
 ghost use Rattle.dtable.specs.Scope.{data_names};
 ghost use Rattle.evaluation.specs.Arguments.{argument_texts, equals_sign, IsSplit, Gives, IsArgument, IsFirstMissing};
 ghost use Rattle.evaluation.specs.Stop.{IsArgumentFault, IsMemoryFault, RefusesArguments};
 
 use crate::stop::{ArgumentFault, ValueStop};
-use dtable::{InputData, Inputs, Plan};
 use feel_tests::{Value, read_value};
 use std::alloc::Global;
+use tables::{InputData, Inputs, Plan};
 
 /// Reads the arguments in order, and returns their values. The first argument that gives no value
 /// is the error.

@@ -3,9 +3,9 @@
 ghost use Rattle.std.specs.Prelude.{◌≡◌, ◌++◌, IfOk, OnOk};
 ghost use Rattle.evaluation.specs.ValueText.{answer_text, output_line, table_lines, value_lines};
 
-use dtable::{Answer, Env, Output, Table};
 use feel_tests::{Literals, Value, append_joined};
 use std::alloc::{AllocError, Global};
+use tables::{Answer, Env, Output, Table};
 
 /// Returns the lines of these tables, in order.
 pub fn value_lines(alloc: Global, tables: &[Table], values: &Env) -> Result<Vec<u8>, AllocError>
