@@ -5,10 +5,7 @@ ghost use Rattle.clap.specs.Words.{parser_of};
 ghost use Rattle.clap.specs.declared.builder.value_parser.ValueParser.TheVariants.{Unsigned};
 ghost use Rattle.console.specs.Limits.{cutoff_limit};
 
-use crate::names::{
-    ASSIGNMENT, BALANCES, CUTOFF, ERRORS_ONLY, EXPLAIN, FILE, OUTPUT, PLAN, STRICT, SUMMARY,
-    WORKERS,
-};
+use crate::names::{ASSIGNMENT, BALANCES, CUTOFF, FILE, OUTPUT, PLAN, WORKERS};
 use clap::builder::ValueParser;
 use clap::{Arg, ArgAction};
 use std::alloc::Global;
@@ -33,29 +30,12 @@ pub fn assignment_argument<'a>(alloc: Global) -> Arg<'a> {
         .num_args(0..)
 }
 
-/// The flag that limits `check` to gaps and overlaps that violate a table's hit policy.
-pub fn errors_argument<'a>(alloc: Global) -> Arg<'a> {
-    let help = "List only gaps and overlaps that are errors under the table's hit policy";
-    flag(alloc, ERRORS_ONLY, "harmful", help)
-}
-
-/// The flag `--strict`. Its help differs between the commands.
-pub fn strict_argument<'a>(alloc: Global, help: &'a str) -> Arg<'a> {
-    flag(alloc, STRICT, "strict", help)
-}
-
 /// The file for the results, in place of standard output.
 pub fn output_argument<'a>(alloc: Global) -> Arg<'a> {
     Arg::new(alloc, OUTPUT)
         .long("output")
         .value_name("FILE")
         .help("Write the results to FILE atomically")
-}
-
-/// The flag `--explain`, which every command has.
-pub fn explain_argument<'a>(alloc: Global) -> Arg<'a> {
-    let help = "Explain errors (default on a terminal)";
-    flag(alloc, EXPLAIN, "explain", help).global(true)
 }
 
 /// The file of opening balances.
@@ -88,12 +68,6 @@ pub fn workers_argument<'a>(alloc: Global, limit: u64) -> Arg<'a>
         .help("Worker threads, 1 to 64")
 }
 
-/// The flag for a summary after a run.
-pub fn summary_argument<'a>(alloc: Global) -> Arg<'a> {
-    let help = "Print the number of records by status (default on a terminal)";
-    flag(alloc, SUMMARY, "summary", help)
-}
-
 /// The providers' claim files, at least one.
 pub fn files_argument<'a>(alloc: Global) -> Arg<'a>
     ensures needed { result.required ≡ true }
@@ -105,7 +79,8 @@ pub fn files_argument<'a>(alloc: Global) -> Arg<'a>
         .num_args(1..)
 }
 
-fn flag<'a>(alloc: Global, name: &'a str, long: &'a str, help: &'a str) -> Arg<'a> {
+/// A flag. The help of some differs between the commands.
+pub fn flag_argument<'a>(alloc: Global, name: &'a str, long: &'a str, help: &'a str) -> Arg<'a> {
     Arg::new(alloc, name)
         .long(long)
         .action(ArgAction::SetTrue)

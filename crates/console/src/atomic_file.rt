@@ -54,14 +54,10 @@ impl<'a, R: Files + AllocGlobal> AtomicFile<'a, R> {
         };
         let mut last = io::Error::from(io::ErrorKind::AlreadyExists);
         for number in 0..NAMES {
-            let beside = format!(in self.files.alloc(); "{path}.new{number}")?;
-            match create_new(self.files, beside.as_str(), mode) {
-                Ok(file) => {
-                    self.beside = beside;
-                    return Ok(file);
-                }
+            self.beside = format!(in self.files.alloc(); "{path}.new{number}")?;
+            match create_new(self.files, self.beside.as_str(), mode) {
                 Err(fault) if fault.kind() == io::ErrorKind::AlreadyExists => last = fault,
-                Err(fault) => return Err(fault),
+                done => return done,
             }
         }
         Err(last)
@@ -86,11 +82,18 @@ impl<'a, R: Files + AllocGlobal> AtomicFile<'a, R> {
 }
 
 fn file_at<R: Files>(files: &R, path: &str) -> io::Result<Option<Metadata>> {
-    match fs::metadata(files, path) {
-        Ok(there) if !there.is_file() => Err(io::Error::new(
+    match metadata_if_there(fs::metadata(files, path))? {
+        Some(there) if !there.is_file() => Err(io::Error::new(
             io::ErrorKind::InvalidInput,
             "not a regular file",
         )),
+        there => Ok(there),
+    }
+}
+
+// It is no error that nothing is there.
+fn metadata_if_there(there: io::Result<Metadata>) -> io::Result<Option<Metadata>> {
+    match there {
         Ok(there) => Ok(Some(there)),
         Err(fault) if fault.kind() == io::ErrorKind::NotFound => Ok(None),
         Err(fault) => Err(fault),
@@ -101,23 +104,26 @@ fn file_at<R: Files>(files: &R, path: &str) -> io::Result<Option<Metadata>> {
 fn led_to<R: Files + AllocGlobal>(files: &R, path: &str) -> io::Result<PathBuf> {
     let mut path = PathBuf::from_str(files.alloc(), path)?;
     for _ in 0..=LINKS {
-        let Some(target) = target_of(files, &path)? else {
+        if !follow(files, &mut path)? {
             return Ok(path);
-        };
-        // A relative target is relative to the link's folder.
-        path.pop();
-        path.push(&target)?;
+        }
     }
     Err(io::Error::from(io::ErrorKind::FilesystemLoop))
 }
 
-fn target_of<R: Files + AllocGlobal>(files: &R, path: &PathBuf) -> io::Result<Option<PathBuf>> {
-    match fs::symlink_metadata(files, path) {
-        Ok(there) if there.is_symlink() => Ok(Some(fs::read_link(files, path)?)),
-        Ok(_) => Ok(None),
-        Err(fault) if fault.kind() == io::ErrorKind::NotFound => Ok(None),
-        Err(fault) => Err(fault),
+// Replaces the path of a link by that of its target. Returns false if there is no link at the path.
+fn follow<R: Files + AllocGlobal>(files: &R, path: &mut PathBuf) -> io::Result<bool> {
+    let is_link = match metadata_if_there(fs::symlink_metadata(files, &*path))? {
+        Some(there) => there.is_symlink(),
+        None => false,
+    };
+    if is_link {
+        let target = fs::read_link(files, &*path)?;
+        // A relative target is relative to the link's folder.
+        path.pop();
+        path.push(&target)?;
     }
+    Ok(is_link)
 }
 
 fn create_new<R: Files>(files: &R, path: &str, mode: u32) -> io::Result<R::File> {

@@ -5,11 +5,10 @@ ghost use Rattle.clap.specs.Words.{AddsSubcommand, subcommand_names};
 ghost use Rattle.clap.specs.declared.builder.command.Command.TheViews.{out-Command as fields_of};
 
 use crate::arguments::{
-    assignment_argument, balances_argument, cutoff_argument, errors_argument, explain_argument,
-    files_argument, output_argument, plan_argument, strict_argument, summary_argument,
-    workers_argument,
+    assignment_argument, balances_argument, cutoff_argument, files_argument, flag_argument,
+    output_argument, plan_argument, workers_argument,
 };
-use crate::names::{CHECK, RUN, VALUE};
+use crate::names::{CHECK, ERRORS_ONLY, EXPLAIN, RUN, STRICT, SUMMARY, VALUE};
 use crate::texts::{check_example, run_example, statuses, value_example};
 use clap::{Arg, ArgMatches, Command, Error};
 use std::alloc::{AllocError, Global};
@@ -35,6 +34,7 @@ fn command_line<'a>(alloc: Global, workers_limit: usize) -> Result<Command<'a>, 
 fn bare_line<'a>(alloc: Global) -> Result<Command<'a>, AllocError>
     ensures { IfOk result (λ line. subcommand_names line ≡ []) }
 {
+    let explain = "Explain errors (default on a terminal)";
     Command::new(alloc, "adjudicate")
         .bin_name("adjudicate")?
         .about("Adjudicate health-plan claims with DMN decision tables, by proved code")
@@ -42,7 +42,7 @@ fn bare_line<'a>(alloc: Global) -> Result<Command<'a>, AllocError>
         .after_help(statuses())
         .subcommand_required(true)
         .arg_required_else_help(true)
-        .arg(explain_argument(alloc))
+        .arg(flag_argument(alloc, EXPLAIN, "explain", explain).global(true))
 }
 
 /// Adds a command to the line. Dropping a `Command` is costly to prove, so this is the one function that returns early while it owns one.
@@ -73,11 +73,12 @@ fn check_command<'a>(alloc: Global) -> Result<Command<'a>, AllocError>
 {
     let about =
         "List the gaps (inputs without a rule) and the overlaps (rules that match together)";
+    let errors_only = "List only gaps and overlaps that are errors under the table's hit policy";
     let strict = "Report unknown plan keys and exit with status 1";
     let arguments = vec![in alloc;
         plan_argument(alloc),
-        errors_argument(alloc),
-        strict_argument(alloc, strict),
+        flag_argument(alloc, ERRORS_ONLY, "harmful", errors_only),
+        flag_argument(alloc, STRICT, "strict", strict),
         output_argument(alloc),
     ]?;
     command_of(alloc, CHECK, about, check_example(), arguments)
@@ -87,14 +88,16 @@ fn run_command<'a>(alloc: Global, workers_limit: usize) -> Result<Command<'a>, A
     ensures { IfOk result (λ command. (fields_of command).name.now ≡ RUN.now) }
 {
     let about = "Settle the claims in the providers' files, and write the remittance";
+    let summary = "Print the number of records by status (default on a terminal)";
+    let strict = "Refuse a plan with unknown keys";
     let arguments = vec![in alloc;
         plan_argument(alloc).long("plan"),
         balances_argument(alloc),
         cutoff_argument(alloc),
         workers_argument(alloc, workers_limit as u64),
         output_argument(alloc),
-        summary_argument(alloc),
-        strict_argument(alloc, "Refuse a plan with unknown keys"),
+        flag_argument(alloc, SUMMARY, "summary", summary),
+        flag_argument(alloc, STRICT, "strict", strict),
         files_argument(alloc),
     ]?;
     command_of(alloc, RUN, about, run_example(), arguments)

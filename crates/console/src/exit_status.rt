@@ -10,7 +10,7 @@ use clap::Error;
 use clap::error::ErrorKind;
 
 /// How the program ends.
-#[derive(Clone, Copy, Debug, PartialEq, Eq, Drop)]
+#[derive(Clone, Copy, PartialEq, Eq, Drop)]
 pub enum ExitStatus {
     /// Success.
     Done,

@@ -9,7 +9,7 @@ use std::io;
 use std::io::Read;
 
 /// The error of reading a text.
-#[derive(Debug, Drop)]
+#[derive(Drop)]
 pub enum ReadFault {
     /// The text cannot be opened or read: it is missing, it is a folder, the user may not read it, or its device failed.
     Unreadable(io::Error),

@@ -1,6 +1,6 @@
 //! Explains the faults of arguments.
 
-use crate::message::Message;
+use crate::message::{Message, Part, dots_if, explain_at, shown_front};
 use crate::system_texts::argument_with_bad_literal;
 use crate::texts::{Explanation, cell_explanation};
 use faults::CellFault;
@@ -12,10 +12,9 @@ pub fn explain_argument(
     argument: &str,
     words: Explanation,
 ) -> Result<Message, AllocError> {
-    let mut message = Message::new(alloc);
-    message.front_line(argument)?;
-    message.words(words)?;
-    Ok(message)
+    let shown = shown_front(argument);
+    let dots = dots_if(shown.len() < argument.len());
+    explain_at(alloc, "{}{}", &[Part::Word(shown), Part::Word(dots)], words)
 }
 
 /// Explains an argument whose literal cannot be read, with a mark below the byte of the fault.
@@ -25,12 +24,16 @@ pub fn explain_literal(
     fault: &CellFault,
 ) -> Result<Message, AllocError> {
     let mut message = Message::new(alloc);
+    let done = add_literal(&mut message, argument, fault);
+    message.after(done)
+}
+
+fn add_literal(message: &mut Message, argument: &str, fault: &CellFault) -> Result<(), AllocError> {
     message.mark(argument, literal_at(argument).saturating_add(fault.at))?;
     message.words(Explanation::new(
         cell_explanation(fault.cause).cause,
         argument_with_bad_literal().fix,
-    ))?;
-    Ok(message)
+    ))
 }
 
 // The offset of the literal, which is after the first `=`.

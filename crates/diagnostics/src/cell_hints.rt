@@ -4,7 +4,7 @@ use crate::kind::Kind;
 use faults::CellCause;
 
 /// A fix for a common mistake.
-#[derive(Clone, Copy, PartialEq, Eq)]
+#[derive(Clone, Copy)]
 pub enum Hint {
     NoEnd,
     EmptyText,

@@ -1,8 +1,9 @@
 //! Explains a fault of a file of claims or balances, and names the columns that it is about.
 
 use crate::file_texts::{file_explanation, record_explanation};
-use crate::message::Message;
-use crate::plan_node::{items_after, text_after, version_of};
+use crate::message::{Message, Part, explain_at};
+use crate::plan_node::{document_of, items_after, text_after, version_of};
+use crate::texts::Explanation;
 use csv::{ByteRecord, ReaderBuilder};
 use faults::{FileFault, RowFault, names};
 use std::alloc::{AllocError, Global};
@@ -15,28 +16,10 @@ const FAMILIES_SINCE: i64 = 3;
 const YEARS_SINCE: i64 = 2;
 
 /// The content of a file.
-#[derive(Clone, Copy, PartialEq, Eq)]
+#[derive(Clone, Copy)]
 pub enum FileKind {
     Claims,
     Balances,
-}
-
-/// What is wrong with a required column of a header.
-#[derive(Clone, Copy, PartialEq, Eq)]
-enum HeaderProblem {
-    Missing,
-    Twice,
-}
-
-impl HeaderProblem {
-    // None where the fault is not about columns.
-    fn of(fault: FileFault) -> Option<HeaderProblem> {
-        match fault {
-            FileFault::MissingColumn => Some(HeaderProblem::Missing),
-            FileFault::DuplicateColumn => Some(HeaderProblem::Twice),
-            FileFault::TooLarge | FileFault::NoHeader | FileFault::OutOfMemory => None,
-        }
-    }
 }
 
 /// Explains the fault of a whole file of this name. The text of the plan shows which columns are required.
@@ -48,25 +31,34 @@ pub fn explain_file(
     kind: FileKind,
     fault: FileFault,
 ) -> Result<Message, AllocError> {
-    let mut message = Message::new(alloc);
-    message.line(&[name])?;
-    if let Some(problem) = HeaderProblem::of(fault) {
-        add_header(alloc, &mut message, text, plan, kind, problem)?;
+    if !is_about_columns(fault) {
+        return explain_at(alloc, "{}", &[Part::Word(name)], file_explanation(fault));
     }
-    message.words(file_explanation(fault))?;
-    Ok(message)
+    let header = header_of(alloc, text)?;
+    let mut message = Message::new(alloc);
+    let done = add_file(alloc, &mut message, name, &header, plan, kind, fault);
+    message.after(done)
 }
 
-fn add_header(
+fn is_about_columns(fault: FileFault) -> bool {
+    match fault {
+        FileFault::MissingColumn | FileFault::DuplicateColumn => true,
+        FileFault::TooLarge | FileFault::NoHeader | FileFault::OutOfMemory => false,
+    }
+}
+
+fn add_file(
     alloc: Global,
     message: &mut Message,
-    text: &[u8],
+    name: &str,
+    header: &ByteRecord,
     plan: &[u8],
     kind: FileKind,
-    problem: HeaderProblem,
+    fault: FileFault,
 ) -> Result<(), AllocError> {
-    let header = header_of(alloc, text)?;
-    add_columns(alloc, message, &header, plan, kind, problem)
+    message.sentence("{}", &[Part::Word(name)])?;
+    add_columns(alloc, message, header, plan, kind, fault)?;
+    message.words(file_explanation(fault))
 }
 
 /// Explains the fault of a record of balances in a file of this name. Records count from 1 after the header.
@@ -78,28 +70,25 @@ pub fn explain_record(
     fault: &RowFault,
 ) -> Result<Message, AllocError> {
     let header = header_of(alloc, text)?;
-    let mut message = Message::new(alloc);
-    add_record(
-        &mut message,
-        name,
-        column_name(&header, fault.column),
-        number,
-    )?;
-    message.words(record_explanation(fault.cause))?;
-    Ok(message)
+    let column = column_name(&header, fault.column);
+    explain_record_at(alloc, name, number, column, record_explanation(fault.cause))
 }
 
-fn add_record(
-    message: &mut Message,
-    name: &str,
-    column: &str,
+// The column is empty where the fault is about none.
+fn explain_record_at<'n>(
+    alloc: Global,
+    name: &'n str,
     number: usize,
-) -> Result<(), AllocError> {
-    if column.is_empty() {
-        message.push_line(format_args!("{name}, record {number} after the header"))
+    column: &'n str,
+    words: Explanation,
+) -> Result<Message, AllocError> {
+    let place = if column.is_empty() {
+        "{}, record {} after the header"
     } else {
-        message.push_line(format_args!("{name}, record {number} after the header, column {column}"))
-    }
+        "{}, record {} after the header, column {}"
+    };
+    let values = [Part::Word(name), Part::Number(number), Part::Word(column)];
+    explain_at(alloc, place, &values, words)
 }
 
 // Column 0 is the record as a whole, which has no name.
@@ -129,15 +118,14 @@ fn add_columns(
     header: &ByteRecord,
     plan: &[u8],
     kind: FileKind,
-    problem: HeaderProblem,
+    fault: FileFault,
 ) -> Result<(), AllocError> {
     for name in required_columns(kind) {
-        add_column(message, header, name, problem)?;
+        add_column(message, header, name, fault)?;
     }
-    match toml::table_from_slice(alloc, plan) {
-        Ok(members) => add_columns_of_plan(message, header, &Value::Table(members), kind, problem),
-        Err(fault) if fault.is_memory() => Err(AllocError),
-        Err(_) => Ok(()),
+    match document_of(alloc, plan)? {
+        Some(plan) => add_columns_of_plan(message, header, &plan, kind, fault),
+        None => Ok(()),
     }
 }
 
@@ -147,16 +135,16 @@ fn add_columns_of_plan(
     header: &ByteRecord,
     plan: &Value,
     kind: FileKind,
-    problem: HeaderProblem,
+    fault: FileFault,
 ) -> Result<(), AllocError> {
     let version = version_of(plan).unwrap_or(1);
     if version >= FAMILIES_SINCE {
-        add_column(message, header, names::FAMILY, problem)?;
+        add_column(message, header, names::FAMILY, fault)?;
     }
     match kind {
-        FileKind::Claims => add_fields(message, header, plan, problem),
+        FileKind::Claims => add_fields(message, header, plan, fault),
         FileKind::Balances if version >= YEARS_SINCE => {
-            add_column(message, header, names::YEAR, problem)
+            add_column(message, header, names::YEAR, fault)
         }
         FileKind::Balances => Ok(()),
     }
@@ -166,11 +154,11 @@ fn add_fields(
     message: &mut Message,
     header: &ByteRecord,
     plan: &Value,
-    problem: HeaderProblem,
+    fault: FileFault,
 ) -> Result<(), AllocError> {
     for field in items_after(Some(plan), "fields") {
         if let Some(name) = text_after(Some(field), "name") {
-            add_column(message, header, name, problem)?;
+            add_column(message, header, name, fault)?;
         }
     }
     Ok(())
@@ -188,23 +176,27 @@ fn add_column(
     message: &mut Message,
     header: &ByteRecord,
     name: &str,
-    problem: HeaderProblem,
+    fault: FileFault,
 ) -> Result<(), AllocError> {
+    let count = count_of(header, name);
+    let value = [Part::Word(name)];
+    match fault {
+        FileFault::MissingColumn if count == 0 => {
+            message.sentence("The header has no column `{}`.", &value)
+        }
+        FileFault::DuplicateColumn if count > 1 => {
+            message.sentence("The header has more than one column `{}`.", &value)
+        }
+        _ => Ok(()),
+    }
+}
+
+fn count_of(header: &ByteRecord, name: &str) -> usize {
     let mut count = 0usize;
     for place in 0..header.len() {
         if header.get(place) == Some(name.as_bytes()) {
             count = count.saturating_add(1);
         }
     }
-    match problem {
-        HeaderProblem::Missing if count == 0 => message.line(&[
-            "The header has no column `",
-            name,
-            "`.",
-        ]),
-        HeaderProblem::Twice if count > 1 => {
-            message.line(&["The header has more than one column `", name, "`."])
-        }
-        HeaderProblem::Missing | HeaderProblem::Twice => Ok(()),
-    }
+    count
 }

@@ -3,10 +3,10 @@
 use crate::cell_hints::{BadCell, Hint};
 use crate::input_name::{add_unknown, near_key};
 use crate::kind::{Kind, kind_of};
-use crate::message::{Message, shown_front};
+use crate::message::{Message, Part, shown_front};
 use crate::places::Step;
 use crate::plan_node::{
-    Column, count_at, has_single_values, items_after, path_to_table, tables, text_after, text_at,
+    Column, count_at, items_after, path_to_table, single_values, tables, text_after, text_at,
     value_at,
 };
 use crate::shape::{Shape, Type};
@@ -29,26 +29,29 @@ pub fn key_of_fault(
     }
 }
 
-/// Adds a line that says what is wrong, where the document at the fault's place shows more than the cause does.
+/// Adds a line that says what is wrong, where the document at the fault's place shows more than the cause does. For a cell it is the cell, with a
+/// mark.
 pub fn add_hints(
     message: &mut Message,
     document: &Value,
     entry: Option<&Value>,
     fault: &PlanFault,
 ) -> Result<(), AllocError> {
-    let shape = shape_of(document, fault);
     match fault.cause {
-        PlanCause::Missing => add_missing_key(message, entry, shape.required_keys(), shape.keys()),
+        PlanCause::Missing => {
+            let shape = shape_of(document, fault);
+            add_missing_key(message, entry, shape.required_keys(), shape.keys())
+        }
         PlanCause::Role => add_role(message, document, fault.column),
-        PlanCause::Kind => add_wrong_value(message, document, entry, shape, fault.table),
+        PlanCause::Kind => add_wrong_value(message, document, entry, fault),
         PlanCause::Unknown => add_unknown(message, document, entry, fault.table),
         PlanCause::Hit => add_hit_policy(message, entry),
+        PlanCause::Cell(cell) => add_cell(message, entry, cell),
         PlanCause::Toml
         | PlanCause::Duplicate
         | PlanCause::Priority
         | PlanCause::Money
         | PlanCause::Limit
-        | PlanCause::Cell(_)
         | PlanCause::OutOfMemory => Ok(()),
     }
 }
@@ -56,15 +59,13 @@ pub fn add_hints(
 /// The cause of a plan's fault and its fix. The text of a cell and the kind of its column may show which fix is the right one.
 pub fn explanation_at(document: &Value, entry: Option<&Value>, fault: &PlanFault) -> Explanation {
     let words = plan_explanation(fault);
-    match fault.cause {
-        PlanCause::Cell(cell) => {
-            let column = Column::of(document, fault.table, fault.column);
-            match cell_advice(document, entry, &column, cell) {
-                Some(hint) => Explanation::new(words.cause, hint.words()),
-                None => words,
-            }
-        }
-        _ => words,
+    let PlanCause::Cell(cell) = fault.cause else {
+        return words;
+    };
+    let column = Column::of(document, fault.table, fault.column);
+    match cell_advice(document, entry, &column, cell) {
+        Some(hint) => Explanation::new(words.cause, hint.words()),
+        None => words,
     }
 }
 
@@ -88,40 +89,45 @@ fn add_missing_key(
     wanted: &[&'static str],
     known: &[&'static str],
 ) -> Result<(), AllocError> {
-    for key in wanted {
-        if !has_key(entry, key) {
-            return match near_key(entry, key, known) {
-                Some(near) => message.push_line(format_args!(
-                    "The key `{key}` is missing; the key `{near}` may be a misspelling of it."
-                )),
-                None => message.push_line(format_args!("The key `{key}` is missing.")),
-            };
-        }
+    let Some(key) = missing_key(entry, wanted) else {
+        return Ok(());
+    };
+    if let Some(near) = near_key(entry, key, known) {
+        let sentence = "The key `{}` is missing; the key `{}` may be a misspelling of it.";
+        return message.sentence(sentence, &[Part::Word(key), Part::Word(near)]);
     }
-    Ok(())
+    message.sentence("The key `{}` is missing.", &[Part::Word(key)])
 }
 
-fn has_key(entry: Option<&Value>, key: &str) -> bool {
-    match entry {
-        Some(entry) => entry.get(key).is_some(),
-        None => false,
+fn missing_key(entry: Option<&Value>, wanted: &[&'static str]) -> Option<&'static str> {
+    for key in wanted {
+        let is_there = match entry {
+            Some(entry) => entry.get(*key).is_some(),
+            None => false,
+        };
+        if !is_there {
+            return Some(*key);
+        }
     }
+    None
 }
 
 fn add_role(message: &mut Message, document: &Value, number: usize) -> Result<(), AllocError> {
     let Some(role) = RoleKey::with_number(number) else {
         return Ok(());
     };
-    let name = role.key();
-    let Some(value) = value_at(document, &[Step::Key("roles"), Step::Key(name)]) else {
-        let roles = value_at(document, &[Step::Key("roles")]);
-        return add_missing_key(message, roles, &[name], Shape::Roles.keys());
+    let key = role.key();
+    let roles = value_at(document, &[Step::Key("roles")]);
+    let Some(value) = value_at(document, &[Step::Key("roles"), Step::Key(key)]) else {
+        return add_missing_key(message, roles, &[key], Shape::Roles.keys());
     };
     match value.as_str() {
         Some(word) => add_word_of_role(message, document, role, shown_front(word)),
-        None => message.push_line(format_args!(
-            "The role `{name}` must be a string: put quotes round a number, too, as in \"50\"."
-        )),
+        None => {
+            let sentence =
+                "The role `{}` must be a string: put quotes round a number, too, as in \"50\".";
+            message.sentence(sentence, &[Part::Word(key)])
+        }
     }
 }
 
@@ -131,72 +137,46 @@ fn add_word_of_role(
     role: RoleKey,
     word: &str,
 ) -> Result<(), AllocError> {
-    match role {
-        RoleKey::Cover => add_single_values(message, document, word, "flag"),
-        RoleKey::Remarks => message.push_line(format_args!(
-            "`{word}` is not a text output of a table under `R`, `O` or `C`."
-        )),
+    let kind = match role {
+        RoleKey::Remarks => {
+            let sentence = "`{}` is not a text output of a table under `R`, `O` or `C`.";
+            return message.sentence(sentence, &[Part::Word(word)]);
+        }
+        RoleKey::Cover => "flag",
         RoleKey::Fee
         | RoleKey::Deductible
         | RoleKey::Copay
         | RoleKey::Rate
         | RoleKey::OopMax
         | RoleKey::FamilyDeductible
-        | RoleKey::FamilyOopMax => add_single_values(message, document, word, "number"),
-    }
+        | RoleKey::FamilyOopMax => "number",
+    };
+    let values = [Part::Word(word), Part::Word(kind), Part::Word(kind)];
+    let sentence = "  `{}` is neither a {} nor the name of one. The plan has the following {}s:";
+    message.add(sentence, &values)?;
+    add_single_values(message, document, kind)?;
+    message.add("\n", &[])
 }
 
+// Appends the names of the single values of this kind.
 fn add_single_values(
     message: &mut Message,
     document: &Value,
-    word: &str,
     kind: &str,
 ) -> Result<(), AllocError> {
-    message.begin_line()?;
-    message.push(format_args!(
-        "`{word}` is neither a {kind} nor the name of one. The plan has the following {kind}s:"
-    ))?;
-    push_single_values(message, document, kind)?;
-    message.end_line()
-}
-
-fn push_single_values(
-    message: &mut Message,
-    document: &Value,
-    kind: &str,
-) -> Result<(), AllocError> {
-    let mut count = push_names(message, 0, items_after(Some(document), "fields"), kind)?;
-    for table in tables(document) {
-        if has_single_values(table) {
-            count = push_names(message, count, items_after(Some(table), "outputs"), kind)?;
+    let mut sentence = " {}";
+    for number in 0..=tables(document).len() {
+        for entry in single_values(document, number) {
+            if text_at(entry, &[], "kind") == kind {
+                message.add(sentence, &[Part::Word(text_at(entry, &[], "name"))])?;
+                sentence = ", {}";
+            }
         }
     }
-    if count == 0 {
-        message.push(" none")?;
+    if sentence == " {}" {
+        message.add(" none", &[])?;
     }
     Ok(())
-}
-
-// Appends the names of the entries of this kind to `before` names, and returns the new number of names.
-fn push_names(
-    message: &mut Message,
-    before: usize,
-    entries: &[Value],
-    kind: &str,
-) -> Result<usize, AllocError> {
-    let mut count = before;
-    for entry in entries {
-        if text_at(entry, &[], "kind") == kind {
-            push_name(message, count, text_at(entry, &[], "name"))?;
-            count = count.saturating_add(1);
-        }
-    }
-    Ok(count)
-}
-
-fn push_name(message: &mut Message, before: usize, name: &str) -> Result<(), AllocError> {
-    message.push(if before == 0 { " " } else { ", " })?;
-    message.push(name)
 }
 
 // Adds what is wrong with the value of a key of an entry, or with the entry itself.
@@ -204,67 +184,71 @@ fn add_wrong_value(
     message: &mut Message,
     document: &Value,
     entry: Option<&Value>,
-    shape: Shape,
-    table: usize,
+    fault: &PlanFault,
 ) -> Result<(), AllocError> {
     let Some(value) = entry else {
         return Ok(());
     };
+    let shape = shape_of(document, fault);
     if let Some(key) = shape.mistyped_key(value) {
-        let wanted = Type::at(key).name();
-        return message.push_line(format_args!("The value of `{key}` must be {wanted}."));
+        let values = [Part::Word(key), Part::Word(Type::at(key).name())];
+        return message.sentence("The value of `{}` must be {}.", &values);
     }
     match shape {
-        Shape::Field | Shape::Input | Shape::Output => add_wrong_word(message, entry),
-        Shape::Rule => add_counts(message, document, entry, table),
+        Shape::Field | Shape::Input | Shape::Output => add_wrong_word(message, value),
+        Shape::Rule => add_counts(message, document, value, fault.table),
         _ => Ok(()),
     }
 }
 
-fn add_wrong_word(message: &mut Message, entry: Option<&Value>) -> Result<(), AllocError> {
-    if let Some(name) = text_after(entry, "name")
+fn add_wrong_word(message: &mut Message, entry: &Value) -> Result<(), AllocError> {
+    if let Some(name) = text_after(Some(entry), "name")
         && !has_name_form(name.as_bytes())
     {
-        return message.push_line(format_args!("`{name}` does not have the form of a name."));
+        return message.sentence(
+            "`{}` does not have the form of a name.",
+            &[Part::Word(name)],
+        );
     }
-    match text_after(entry, "kind") {
-        Some(word) if Kind::of_word(word).is_none() => message.push_line(format_args!(
-            "`{word}` is not a kind; the kinds are `number`, `text`, `flag` and `day`."
-        )),
-        _ => Ok(()),
+    if let Some(word) = text_after(Some(entry), "kind")
+        && Kind::of_word(word).is_none()
+    {
+        let sentence = "`{}` is not a kind; the kinds are `number`, `text`, `flag` and `day`.";
+        return message.sentence(sentence, &[Part::Word(word)]);
     }
+    Ok(())
 }
 
 fn has_name_form(name: &[u8]) -> bool {
+    for byte in name {
+        if !byte.is_ascii_alphanumeric() && *byte != b'_' {
+            return false;
+        }
+    }
     match name.first() {
+        Some(first) => !first.is_ascii_digit(),
         None => false,
-        Some(first) if first.is_ascii_digit() => false,
-        Some(_) => name
-            .iter()
-            .all(|byte| byte.is_ascii_alphanumeric() || *byte == b'_'),
     }
 }
 
 fn add_counts(
     message: &mut Message,
     document: &Value,
-    rule: Option<&Value>,
+    rule: &Value,
     table: usize,
 ) -> Result<(), AllocError> {
     let path = path_to_table(table);
-    let cells = items_after(rule, "when").len();
+    let cells = items_after(Some(rule), "when").len();
     let inputs = count_at(document, path.as_slice(), "inputs");
-    if cells != inputs {
-        return message.push_line(format_args!(
-            "The number of cells in `when` is {cells}, and the number of inputs is {inputs}."
-        ));
-    }
-    let literals = items_after(rule, "then").len();
+    let literals = items_after(Some(rule), "then").len();
     let outputs = count_at(document, path.as_slice(), "outputs");
+    if cells != inputs {
+        let sentence = "The number of cells in `when` is {}, and the number of inputs is {}.";
+        return message.sentence(sentence, &[Part::Number(cells), Part::Number(inputs)]);
+    }
     if literals != outputs {
-        return message.push_line(format_args!(
-            "The number of literals in `then` is {literals}, and the number of outputs is {outputs}."
-        ));
+        let sentence = "The number of literals in `then` is {}, and the number of outputs is {}.";
+        return message.sentence(sentence, &[Part::Number(literals), Part::Number(outputs)]);
     }
     Ok(())
 }
@@ -272,7 +256,7 @@ fn add_counts(
 fn add_hit_policy(message: &mut Message, table: Option<&Value>) -> Result<(), AllocError> {
     match text_after(table, "hit") {
         Some(word) if !hit_policies().contains(&word) => {
-            message.push_line(format_args!("`{word}` is not a hit policy."))
+            message.sentence("`{}` is not a hit policy.", &[Part::Word(word)])
         }
         _ => Ok(()),
     }
@@ -282,23 +266,32 @@ fn hit_policies() -> &'static [&'static str] {
     &["U", "A", "P", "F", "O", "R", "C", "C+", "C<", "C>", "C#"]
 }
 
+fn add_cell(
+    message: &mut Message,
+    entry: Option<&Value>,
+    fault: CellFault,
+) -> Result<(), AllocError> {
+    match text_of(entry) {
+        Some(text) => message.mark(text, fault.at),
+        None => Ok(()),
+    }
+}
+
+fn text_of(entry: Option<&Value>) -> Option<&str> {
+    entry?.as_str()
+}
+
 fn cell_advice(
     document: &Value,
     entry: Option<&Value>,
     column: &Column<'_>,
     fault: CellFault,
 ) -> Option<Hint> {
-    let Some(text) = entry.and_then(Value::as_str) else {
-        return None;
-    };
-    let Some(kind) = kind_of(document, column) else {
-        return None;
-    };
-    let part = BadCell {
-        text: text.as_bytes(),
-        kind,
+    let cell = BadCell {
+        text: text_of(entry)?.as_bytes(),
+        kind: kind_of(document, column)?,
         is_literal: !column.is_input,
         at: fault.at,
     };
-    part.hint(fault.cause)
+    cell.hint(fault.cause)
 }

@@ -1,8 +1,8 @@
 //! Explains why an input may not have the name that it has, and finds similar names.
 
 use crate::edits::is_one_edit;
-use crate::message::Message;
-use crate::plan_node::{has_single_values, items_after, tables, text_after, text_at};
+use crate::message::{Message, Part};
+use crate::plan_node::{items_after, single_values, tables, text_after, text_at};
 use crate::shape::Shape;
 use std::alloc::AllocError;
 use toml::Value;
@@ -21,12 +21,11 @@ pub fn add_unknown(
     if let Some(number) = table_with_output(document, name) {
         return add_output(message, document, name, number, table);
     }
-    match near_value(document, name, table) {
-        Some(near) => message.push_line(format_args!(
-            "Unknown input `{name}`; did you mean `{near}`?"
-        )),
-        None => add_unlike(message, document, name),
+    if let Some(near) = near_value(document, name, table) {
+        let values = [Part::Word(name), Part::Word(near)];
+        return message.sentence("Unknown input `{}`; did you mean `{}`?", &values);
     }
+    add_unlike(message, document, name)
 }
 
 // The number of the first table that has an output with this name.
@@ -44,38 +43,35 @@ fn table_with_output(document: &Value, name: &str) -> Option<usize> {
 }
 
 // Adds why an output of the table with this number cannot be an input of the other table.
-fn add_output(
+fn add_output<'d>(
     message: &mut Message,
-    document: &Value,
-    name: &str,
+    document: &'d Value,
+    name: &'d str,
     number: usize,
     table: usize,
 ) -> Result<(), AllocError> {
-    if number > table {
-        return message.push_line(format_args!(
-            "`{name}` is an output of table {number}, which comes after this one."
-        ));
-    }
-    if number == table {
-        return message.push_line(format_args!("`{name}` is an output of this table."));
-    }
-    let hit = match tables(document).get(number.saturating_sub(1)) {
-        Some(table) => text_at(table, &[], "hit"),
-        None => "",
+    let hit = text_after(tables(document).get(number.saturating_sub(1)), "hit").unwrap_or("");
+    let sentence = if number > table {
+        "`{}` is an output of table {}, which comes after this one."
+    } else if number == table {
+        "`{}` is an output of this table."
+    } else {
+        "`{}` is a list, since table {} has the hit policy `{}`."
     };
-    message.push_line(format_args!(
-        "`{name}` is a list, since table {number} has the hit policy `{hit}`."
-    ))
+    let values = [Part::Word(name), Part::Number(number), Part::Word(hit)];
+    message.sentence(sentence, &values)
 }
 
 // Where the key `fields` is misspelt, no field is known.
 fn add_unlike(message: &mut Message, document: &Value, name: &str) -> Result<(), AllocError> {
-    match near_key(Some(document), "fields", Shape::Plan.keys()) {
-        Some(near) if document.get("fields").is_none() => message.push_line(format_args!(
-            "Unknown input `{name}`. The key `fields` is missing; the key `{near}` may be a misspelling of it."
-        )),
-        _ => message.push_line(format_args!("Unknown input `{name}`.")),
+    if document.get("fields").is_none()
+        && let Some(near) = near_key(Some(document), "fields", Shape::Plan.keys())
+    {
+        let sentence =
+            "Unknown input `{}`. The key `fields` is missing; the key `{}` may be a misspelling of it.";
+        return message.sentence(sentence, &[Part::Word(name), Part::Word(near)]);
     }
+    message.sentence("Unknown input `{}`.", &[Part::Word(name)])
 }
 
 /// A key of an entry that may be a misspelling of the wanted one. A known key is not one: `when` is one edit away from `then`.
@@ -84,7 +80,7 @@ pub fn near_key<'d>(
     wanted: &str,
     known: &[&'static str],
 ) -> Option<&'d str> {
-    for (key, _) in entry?.as_table()? {
+    for key in entry?.as_table()?.keys() {
         let word = key.as_str();
         if is_one_edit(word.as_bytes(), wanted.as_bytes()) && !known.contains(&word) {
             return Some(word);
@@ -95,14 +91,8 @@ pub fn near_key<'d>(
 
 // The first name that the inputs of a table may have and that is one edit away from the given one.
 fn near_value<'d>(document: &'d Value, name: &str, table: usize) -> Option<&'d str> {
-    if let Some(near) = near_name(items_after(Some(document), "fields"), name) {
-        return Some(near);
-    }
-    let before = table.saturating_sub(1);
-    for table in tables(document).get(..before).unwrap_or(&[]) {
-        if has_single_values(table)
-            && let Some(near) = near_name(items_after(Some(table), "outputs"), name)
-        {
+    for number in 0..table {
+        if let Some(near) = near_name(single_values(document, number), name) {
             return Some(near);
         }
     }

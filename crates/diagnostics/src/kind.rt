@@ -48,7 +48,9 @@ fn kind_of_own(document: &Value, name: &str) -> Option<Kind> {
     }
     for table in tables(document) {
         if let Some(kind) = kind_among(items_after(Some(table), "outputs"), name) {
-            return Some(read_kind_of(table, kind));
+            // Later tables read a number where the hit policy counts the matches.
+            let is_count = text_after(Some(table), "hit") == Some("C#");
+            return Some(if is_count { Kind::Number } else { kind });
         }
     }
     None
@@ -61,15 +63,6 @@ fn kind_among(entries: &[Value], name: &str) -> Option<Kind> {
         }
     }
     None
-}
-
-// Later tables read a number where the hit policy counts the matches.
-fn read_kind_of(table: &Value, kind: Kind) -> Kind {
-    if text_after(Some(table), "hit") == Some("C#") {
-        Kind::Number
-    } else {
-        kind
-    }
 }
 
 // The names that every plan may read, and those of a plan with families.

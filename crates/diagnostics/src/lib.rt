@@ -50,4 +50,4 @@ pub use system_texts::{
 };
 pub use table::explain_tables;
 pub use texts::Explanation;
-pub use unread::{UnusedKey, unread_keys};
+pub use unread::unknown_keys;

@@ -6,7 +6,6 @@ use crate::sanitize::push_printable;
 use crate::scanner::places_of;
 use crate::texts::Explanation;
 use std::alloc::{AllocError, Global};
-use std::fmt::Display;
 
 /// The most bytes that are shown of a word, and of a line before its mark and after it.
 const SHOWN_LIMIT_BYTES: usize = 100;
@@ -14,7 +13,14 @@ const SHOWN_LIMIT_BYTES: usize = 100;
 /// What replaces the part of a text that is not shown.
 const DOTS: &str = "...";
 
-/// The lines of an explanation, each indented by two spaces.
+/// A value in a sentence.
+#[derive(Clone, Copy)]
+pub enum Part<'p> {
+    Word(&'p str),
+    Number(usize),
+}
+
+/// The lines of an explanation.
 pub struct Message {
     alloc: Global,
     text: String,
@@ -29,8 +35,20 @@ impl Drop for Message {
 /// Explains an error by its cause and its fix alone.
 pub fn explain(alloc: Global, words: Explanation) -> Result<Message, AllocError> {
     let mut message = Message::new(alloc);
-    message.words(words)?;
-    Ok(message)
+    let done = message.words(words);
+    message.after(done)
+}
+
+/// Explains an error by a sentence about its place, its cause and its fix.
+pub fn explain_at(
+    alloc: Global,
+    place: &str,
+    values: &[Part<'_>],
+    words: Explanation,
+) -> Result<Message, AllocError> {
+    let mut message = Message::new(alloc);
+    let done = message.sentence_and_words(place, values, words);
+    message.after(done)
 }
 
 /// Explains why a file of this name cannot be read or written, with the system's reason.
@@ -40,14 +58,16 @@ pub fn explain_unusable_file(
     reason: &str,
     words: Explanation,
 ) -> Result<Message, AllocError> {
-    let mut message = Message::new(alloc);
-    message.line(&[name, ": ", reason])?;
-    message.words(words)?;
-    Ok(message)
+    explain_at(
+        alloc,
+        "{}: {}",
+        &[Part::Word(name), Part::Word(reason)],
+        words,
+    )
 }
 
 impl Message {
-    /// A page without lines.
+    /// A message without lines.
     pub(crate) fn new(alloc: Global) -> Message {
         Message {
             alloc,
@@ -60,74 +80,91 @@ impl Message {
         self.text.as_str()
     }
 
-    // Adds a line. U+FFFD replaces each control character.
-    pub(crate) fn line(&mut self, words: &[&str]) -> Result<(), AllocError> {
-        self.begin_line()?;
-        for word in words {
-            push_printable(&mut self.text, word)?;
+    /// The message, or the error of the steps that added its lines. With it, those that own a message have one way out.
+    pub(crate) fn after(self, done: Result<(), AllocError>) -> Result<Message, AllocError> {
+        match done {
+            Ok(()) => Ok(self),
+            Err(fault) => Err(fault),
         }
-        self.end_line()
     }
 
-    // Adds a line with the part of a word that is shown.
-    pub(crate) fn front_line(&mut self, word: &str) -> Result<(), AllocError> {
-        let shown = shown_front(word);
-        self.begin_line()?;
-        self.push_part("", shown, dots_if(shown.len() < word.len()))
+    /// Adds a line, indented by two spaces: the sentence, with the values in place of its pairs of braces.
+    pub(crate) fn sentence(
+        &mut self,
+        sentence: &str,
+        values: &[Part<'_>],
+    ) -> Result<(), AllocError> {
+        self.add("  ", &[])?;
+        self.add(sentence, values)?;
+        self.add("\n", &[])
     }
 
-    // Appends a part of a line, with what replaces the rest of it before and after it, and ends the line.
-    fn push_part(&mut self, front: &str, part: &str, back: &str) -> Result<(), AllocError> {
-        self.text.push_str(front)?;
-        push_printable(&mut self.text, part)?;
-        self.text.push_str(back)?;
-        self.end_line()
+    fn sentence_and_words(
+        &mut self,
+        sentence: &str,
+        values: &[Part<'_>],
+        words: Explanation,
+    ) -> Result<(), AllocError> {
+        self.sentence(sentence, values)?;
+        self.words(words)
     }
 
-    pub(crate) fn push_line<D: Display + Drop>(&mut self, words: D) -> Result<(), AllocError> {
-        self.begin_line()?;
-        self.push(words)?;
-        self.end_line()
-    }
-
-    pub(crate) fn begin_line(&mut self) -> Result<(), AllocError> {
-        self.text.push_str("  ")
-    }
-
-    pub(crate) fn push<D: Display + Drop>(&mut self, words: D) -> Result<(), AllocError> {
-        let words = String::format(self.alloc, words)?;
-        push_printable(&mut self.text, words.as_str())
-    }
-
-    pub(crate) fn end_line(&mut self) -> Result<(), AllocError> {
-        self.text.push_str("\n")
-    }
-
-    // Adds the cause and the fix.
+    /// Adds the cause and the fix.
     pub(crate) fn words(&mut self, words: Explanation) -> Result<(), AllocError> {
-        self.line(&["Cause: ", words.cause])?;
-        self.line(&["Fix: ", words.fix])
+        self.sentence("Cause: {}", &[Part::Word(words.cause)])?;
+        self.sentence("Fix: {}", &[Part::Word(words.fix)])
     }
 
-    // Adds the line and the column of a byte of a file.
+    /// Appends a part of a line, with the values in place of its pairs of braces. Values without a pair are left out.
+    pub(crate) fn add(&mut self, sentence: &str, values: &[Part<'_>]) -> Result<(), AllocError> {
+        let mut rest = sentence;
+        for value in values {
+            if let Some((front, back)) = rest.split_once("{}") {
+                self.text.push_str(front)?;
+                self.add_value(*value)?;
+                rest = back;
+            }
+        }
+        self.text.push_str(rest)
+    }
+
+    // U+FFFD replaces each control character of a word.
+    fn add_value(&mut self, value: Part<'_>) -> Result<(), AllocError> {
+        match value {
+            Part::Word(word) => push_printable(&mut self.text, word),
+            Part::Number(number) => {
+                let digits = String::format(self.alloc, number)?;
+                self.text.push_str(digits.as_str())
+            }
+        }
+    }
+
+    /// Adds the line and the column of a byte of a file.
     pub(crate) fn place(&mut self, name: &str, text: &[u8], at: usize) -> Result<(), AllocError> {
         let position = position_of(text, at);
-        let (line, column) = (position.line, position.column);
-        self.push_line(format_args!("{name}, line {line}, column {column}"))
+        let values = [
+            Part::Word(name),
+            Part::Number(position.line),
+            Part::Number(position.column),
+        ];
+        self.sentence("{}, line {}, column {}", &values)
     }
 
-    // Adds the place in a plan's text of the value at the end of the steps; if that does not exist, of the last one that does.
+    /// Adds the place in a plan's text of the value at the end of the steps; if that does not exist, of the last one that does.
     pub(crate) fn place_of(
         &mut self,
         name: &str,
-        text: &str,
+        text: &[u8],
         steps: &[Step],
     ) -> Result<(), AllocError> {
-        let places = places_of(self.alloc, text)?;
-        self.place(name, text.as_bytes(), places.nearest_node(steps))
+        let Ok(words) = str::from_utf8(text) else {
+            return Ok(());
+        };
+        let places = places_of(self.alloc, words)?;
+        self.place(name, text, places.nearest_node(steps))
     }
 
-    // Adds the line of a text that has this byte, and a mark below the byte.
+    /// Adds the line of a text that has this byte, and a mark below the byte.
     pub(crate) fn mark(&mut self, text: &str, at: usize) -> Result<(), AllocError> {
         let mut begin = 0usize;
         for line in text.split('\n') {
@@ -146,8 +183,9 @@ impl Message {
         let end = line.floor_char_boundary(at.saturating_add(SHOWN_LIMIT_BYTES));
         let shown = line.get(begin..end).unwrap_or("");
         let front = dots_if(begin > 0);
-        self.text.push_str("      ")?;
-        self.push_part(front, shown, dots_if(end < line.len()))?;
+        let back = dots_if(end < line.len());
+        let values = [Part::Word(front), Part::Word(shown), Part::Word(back)];
+        self.sentence("    {}{}{}", &values)?;
         let before = characters_before(shown, at.saturating_sub(begin));
         self.mark_below(front.len().saturating_add(before))
     }
@@ -168,7 +206,8 @@ pub fn shown_front(word: &str) -> &str {
     word.get(..end).unwrap_or("")
 }
 
-fn dots_if(is_cut: bool) -> &'static str {
+/// What replaces the rest of a text, if it is cut.
+pub fn dots_if(is_cut: bool) -> &'static str {
     if is_cut { DOTS } else { "" }
 }
 

@@ -4,7 +4,7 @@ use std::alloc::{AllocError, Global};
 use std::collections::BTreeMap;
 
 /// A step on the way to a value: a key of a table, or an item of an array, counted from 0.
-#[derive(Clone, Copy, PartialEq, Eq)]
+#[derive(Clone, Copy)]
 pub enum Step {
     Key(&'static str),
     Item(usize),
@@ -31,24 +31,6 @@ pub(crate) struct Node {
     pub last: usize,
 }
 
-impl Node {
-    // Of two equal keys the first one counts.
-    fn add_key(&mut self, key: String, number: usize) -> Result<(), AllocError> {
-        if self.below.get(key.as_str()).is_none() {
-            let _before = self.below.insert(key, number)?;
-        }
-        Ok(())
-    }
-
-    // Returns the index of the new item.
-    fn add_item(&mut self, number: usize) -> usize {
-        let item = self.items;
-        self.items = item.saturating_add(1);
-        self.last = number;
-        item
-    }
-}
-
 /// The keys and values of a document in the order of the text. The first is the document itself.
 #[derive(Drop)]
 pub struct Places {
@@ -62,7 +44,7 @@ impl Places {
             alloc,
             nodes: Vec::new(alloc),
         };
-        places.push(0, None, 0)?;
+        places.push(0, None, 0, 0)?;
         Ok(places)
     }
 
@@ -74,18 +56,18 @@ impl Places {
     pub fn nearest_node(&self, steps: &[Step]) -> usize {
         let mut here = 0;
         for step in steps {
-            match self.child(here, *step) {
+            let child = match *step {
+                Step::Key(key) => self.value_of(here, key),
+                Step::Item(item) => self.item_of(here, item),
+            };
+            match child {
                 Some(child) => here = child,
                 None => break,
             }
         }
-        self.nodes.get(here).map_or(0, |node| node.value_at)
-    }
-
-    fn child(&self, parent: usize, step: Step) -> Option<usize> {
-        match step {
-            Step::Key(key) => self.value_of(parent, key),
-            Step::Item(item) => self.item_of(parent, item),
+        match self.nodes.get(here) {
+            Some(node) => node.value_at,
+            None => 0,
         }
     }
 
@@ -110,34 +92,44 @@ impl Places {
         parent: usize,
         key: Option<String>,
         at: usize,
+        value_at: usize,
     ) -> Result<usize, AllocError> {
         let number = self.nodes.len();
-        let mut item = 0;
-        if number > 0
-            && let Some(node) = self.nodes.get_mut(parent)
-        {
-            match &key {
-                Some(key) => node.add_key(key.clone()?, number)?,
-                None => item = node.add_item(number),
-            }
-        }
+        let item = self.add_below(parent, &key, number)?;
         self.nodes.push(Node {
             parent,
             key,
             below: BTreeMap::new(self.alloc),
             item,
             at,
-            value_at: at,
+            value_at,
             items: 0,
             last: 0,
         })?;
         Ok(number)
     }
 
-    pub(crate) fn set_value_at(&mut self, number: usize, at: usize) {
-        if let Some(node) = self.nodes.get_mut(number) {
-            node.value_at = at;
+    // Adds a key or an item to the table or the array that has it, and returns the index of the item. The document itself is in neither.
+    fn add_below(
+        &mut self,
+        parent: usize,
+        key: &Option<String>,
+        number: usize,
+    ) -> Result<usize, AllocError> {
+        let Some(node) = self.nodes.get_mut(parent) else {
+            return Ok(0);
+        };
+        let Some(key) = key else {
+            let item = node.items;
+            node.items = item.saturating_add(1);
+            node.last = number;
+            return Ok(item);
+        };
+        // Of two equal keys the first one counts.
+        if node.below.get(key.as_str()).is_none() {
+            let _before = node.below.insert(key.clone()?, number)?;
         }
+        Ok(0)
     }
 
     // The table at a part of a dotted key. TOML: if that part is an array of tables, its last item is meant; if it does not exist, the key defines it.
@@ -151,7 +143,7 @@ impl Places {
             Some(child) => Ok(self.last_item(child)),
             None => {
                 let key = String::from_str(self.alloc, key)?;
-                self.push(parent, Some(key), at)
+                self.push(parent, Some(key), at, at)
             }
         }
     }
@@ -163,16 +155,21 @@ impl Places {
         }
     }
 
-    // The array of a header in double brackets. The first such header defines it.
-    pub(crate) fn array_under(
+    // The table of a header; for one in double brackets a new item of its array, which the first such header defines.
+    pub(crate) fn section(
         &mut self,
         parent: usize,
         key: String,
         at: usize,
+        is_array: bool,
     ) -> Result<usize, AllocError> {
-        match self.value_of(parent, key.as_str()) {
-            Some(child) => Ok(child),
-            None => self.push(parent, Some(key), at),
+        if !is_array {
+            return self.table_under(parent, key.as_str(), at);
         }
+        let array = match self.value_of(parent, key.as_str()) {
+            Some(child) => child,
+            None => self.push(parent, Some(key), at, at)?,
+        };
+        self.push(array, None, at, at)
     }
 }

@@ -1,7 +1,7 @@
 //! Explains a plan's fault, and where it is in the plan's text.
 
 use crate::hints::{add_hints, explanation_at, key_of_fault};
-use crate::message::Message;
+use crate::message::{Message, Part, explain_at};
 use crate::plan_node::{add_part_name, path_to_fault, value_at};
 use crate::texts::{Level, level_of, plan_explanation};
 use faults::{PlanCause, PlanFault};
@@ -15,15 +15,13 @@ pub fn explain_plan(
     text: &[u8],
     fault: &PlanFault,
 ) -> Result<Message, AllocError> {
-    let mut message = Message::new(alloc);
     if matches!(fault.cause, PlanCause::Limit) && level_of(fault) == Level::Plan {
         // A text over its limit is read no further than to the limit, so no place in it can be right.
-        message.line(&[name])?;
-        message.words(plan_explanation(fault))?;
-    } else {
-        add_text(alloc, &mut message, name, text, fault)?;
+        return explain_at(alloc, "{}", &[Part::Word(name)], plan_explanation(fault));
     }
-    Ok(message)
+    let mut message = Message::new(alloc);
+    let done = add_text(alloc, &mut message, name, text, fault);
+    message.after(done)
 }
 
 fn add_text(
@@ -35,6 +33,7 @@ fn add_text(
 ) -> Result<(), AllocError> {
     match toml::table_from_slice(alloc, text) {
         Ok(members) => add_place(message, name, text, &Value::Table(members), fault),
+        Err(refusal) if refusal.is_memory() => Err(AllocError),
         Err(refusal) => {
             add_refusal(message, name, text, &refusal)?;
             message.words(plan_explanation(fault))
@@ -49,15 +48,12 @@ fn add_refusal(
     text: &[u8],
     refusal: &toml::de::Error,
 ) -> Result<(), AllocError> {
-    if refusal.is_memory() {
-        return Err(AllocError);
-    }
     let at = match refusal.span() {
         Some(span) => span.start,
         None => 0,
     };
     message.place(name, text, at)?;
-    message.line(&[refusal.message()])
+    message.sentence("{}", &[Part::Word(refusal.message())])
 }
 
 fn add_place(
@@ -73,16 +69,8 @@ fn add_place(
         Some(key) => path.key(key),
         None => path,
     };
-    if let Ok(text) = str::from_utf8(text) {
-        message.place_of(name, text, place.as_slice())?;
-    }
+    message.place_of(name, text, place.as_slice())?;
     add_part_name(message, document, fault)?;
-    if let PlanCause::Cell(cell) = fault.cause
-        && let Some(value) = value
-        && let Some(text) = value.as_str()
-    {
-        message.mark(text, cell.at)?;
-    }
     add_hints(message, document, value, fault)?;
     message.words(explanation_at(document, value, fault))
 }

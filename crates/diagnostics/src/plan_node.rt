@@ -1,44 +1,42 @@
 //! Finds the value of a plan's document that the numbers of a table, a rule and a column refer to.
 
-use crate::message::{Message, shown_front};
+use crate::message::{Message, Part, shown_front};
 use crate::places::Step;
+use crate::texts::{Level, level_of};
 use crate::value_path::ValuePath;
 use faults::{PlanCause, PlanFault, RoleKey};
-use std::alloc::AllocError;
+use std::alloc::{AllocError, Global};
 use toml::Value;
 
-/// The path to the place of a plan's fault.
-pub fn path_to_fault(document: &Value, fault: &PlanFault) -> ValuePath {
-    if fault.table == 0 {
-        return path_at_top(document, fault);
-    }
-    let table = path_to_table(fault.table);
-    let rule = if fault.rule > 0 {
-        table.key("rules").item(fault.rule)
-    } else {
-        table
-    };
-    if fault.column == 0 {
-        return rule;
-    }
-    let column = Column::of(document, fault.table, fault.column);
-    let cell = rule.key(column.part(fault.rule > 0)).item(column.number);
-    if fault.rule == 0 && column.is_input && matches!(fault.cause, PlanCause::Cell(_)) {
-        cell.key("values")
-    } else {
-        cell
+/// The document of a plan's text; none if the text is not TOML.
+pub fn document_of(alloc: Global, text: &[u8]) -> Result<Option<Value>, AllocError> {
+    match toml::table_from_slice(alloc, text) {
+        Ok(members) => Ok(Some(Value::Table(members))),
+        Err(refusal) if refusal.is_memory() => Err(AllocError),
+        Err(_) => Ok(None),
     }
 }
 
-fn path_at_top(document: &Value, fault: &PlanFault) -> ValuePath {
+/// The path to the place of a plan's fault.
+pub fn path_to_fault(document: &Value, fault: &PlanFault) -> ValuePath {
     let column = fault.column;
-    if column == 0 {
-        return ValuePath::top();
+    match level_of(fault) {
+        Level::Plan => ValuePath::top(),
+        Level::Field if is_role(document, fault) => {
+            ValuePath::top().key("roles").key(role_name(column))
+        }
+        Level::Field => path_to_field(column),
+        Level::Column if is_in_values(document, fault) => {
+            path_in_table(document, fault.table, 0, column).key("values")
+        }
+        _ => path_in_table(document, fault.table, fault.rule, column),
     }
-    if !is_role(document, fault) {
-        return path_to_field(column);
-    }
-    ValuePath::top().key("roles").key(role_name(column))
+}
+
+// A column has cells in the allowed values of an input alone.
+fn is_in_values(document: &Value, fault: &PlanFault) -> bool {
+    matches!(fault.cause, PlanCause::Cell(_))
+        && Column::of(document, fault.table, fault.column).is_input
 }
 
 fn path_to_field(field: usize) -> ValuePath {
@@ -50,21 +48,25 @@ pub fn path_to_table(table: usize) -> ValuePath {
     ValuePath::top().key("tables").item(table)
 }
 
-/// The path to an input of a table, both by their numbers from 1. Input 0 is the table itself.
-pub fn path_to_input(table: usize, input: usize) -> ValuePath {
-    let table = path_to_table(table);
-    if input > 0 {
-        table.key("inputs").item(input)
-    } else {
-        table
+/// The path to a part of a table: to a rule, a column or a cell, by their numbers from 1. Without a rule or a column the number is 0.
+pub fn path_in_table(document: &Value, table: usize, rule: usize, column: usize) -> ValuePath {
+    let mut path = path_to_table(table);
+    if rule > 0 {
+        path = path.key("rules").item(rule);
     }
+    if column > 0 {
+        let column = Column::of(document, table, column);
+        let list = list_of_columns(rule > 0, column.is_input);
+        path = path.key(list).item(column.number);
+    }
+    path
 }
 
 // Fields and roles have the same place numbers; the cause shows which of them is meant.
 fn is_role(document: &Value, fault: &PlanFault) -> bool {
     match fault.cause {
         PlanCause::Role | PlanCause::Money => true,
-        _ => count_at(document, &[], "fields") < fault.column,
+        _ => items_after(Some(document), "fields").len() < fault.column,
     }
 }
 
@@ -82,60 +84,44 @@ pub fn add_part_name(
     document: &Value,
     fault: &PlanFault,
 ) -> Result<(), AllocError> {
-    if fault.table == 0 {
-        return add_name_at_top(message, document, fault);
+    let column = fault.column;
+    match level_of(fault) {
+        Level::Plan => message.sentence("the top level of the plan", &[]),
+        Level::Field if is_role(document, fault) => {
+            let name = role_name(column);
+            message.sentence("role {} {}", &[Part::Number(column), Part::Word(name)])
+        }
+        Level::Field => {
+            let name = text_at(document, path_to_field(column).as_slice(), "name");
+            message.sentence("field {} {}", &[Part::Number(column), Part::Word(name)])
+        }
+        _ => add_name_in_table(message, document, fault.table, fault.rule, column),
     }
-    let PlanFault {
-        table,
-        rule,
-        column,
-        cause: _,
-    } = *fault;
-    message.begin_line()?;
-    message.push(format_args!("table {table}"))?;
-    if rule > 0 {
-        message.push(format_args!(", rule {rule}"))?;
-    }
-    if column > 0 {
-        push_column(message, &Column::of(document, table, column))?;
-    }
-    message.end_line()
 }
 
-fn push_column(message: &mut Message, column: &Column<'_>) -> Result<(), AllocError> {
-    let (side, number, name) = (column.side(), column.number, column.name);
-    message.push(format_args!(", {side} {number} {name}"))
-}
-
-/// Adds a line that names an input of a table. Input 0 is the table itself.
-pub fn add_input_name(
+/// Adds a line that names a part of a table, by the numbers that `path_in_table` takes.
+pub fn add_name_in_table(
     message: &mut Message,
     document: &Value,
     table: usize,
-    input: usize,
+    rule: usize,
+    column: usize,
 ) -> Result<(), AllocError> {
-    if input == 0 {
-        return message.push_line(format_args!("table {table}"));
+    message.add("  table {}", &[Part::Number(table)])?;
+    if rule > 0 {
+        message.add(", rule {}", &[Part::Number(rule)])?;
     }
-    let name = Column::of(document, table, input).name;
-    message.push_line(format_args!("table {table}, input {input} {name}"))
-}
-
-fn add_name_at_top(
-    message: &mut Message,
-    document: &Value,
-    fault: &PlanFault,
-) -> Result<(), AllocError> {
-    let column = fault.column;
-    if column == 0 {
-        return message.line(&["the top level of the plan"]);
+    if column > 0 {
+        let column = Column::of(document, table, column);
+        let side = if column.is_input { "input" } else { "output" };
+        let values = [
+            Part::Word(side),
+            Part::Number(column.number),
+            Part::Word(column.name),
+        ];
+        message.add(", {} {} {}", &values)?;
     }
-    if is_role(document, fault) {
-        let name = role_name(column);
-        return message.push_line(format_args!("role {column} {name}"));
-    }
-    let name = text_at(document, path_to_field(column).as_slice(), "name");
-    message.push_line(format_args!("field {column} {name}"))
+    message.add("\n", &[])
 }
 
 /// A column of a table: an input or an output, with its number from 1 among the inputs or the outputs. Its kind is empty if the document does not
@@ -159,7 +145,7 @@ impl<'d> Column<'d> {
         } else {
             column.saturating_sub(inputs)
         };
-        let path = path.key(part_of(false, is_input)).item(number);
+        let path = path.key(list_of_columns(false, is_input)).item(number);
         Column {
             is_input,
             number,
@@ -167,18 +153,10 @@ impl<'d> Column<'d> {
             kind: text_at(document, path.as_slice(), "kind"),
         }
     }
-
-    // The key of the array that the column is an item of.
-    fn part(&self, is_rule: bool) -> &'static str {
-        part_of(is_rule, self.is_input)
-    }
-
-    fn side(&self) -> &'static str {
-        if self.is_input { "input" } else { "output" }
-    }
 }
 
-fn part_of(is_rule: bool, is_input: bool) -> &'static str {
+// The key of the array that has an item for each column.
+fn list_of_columns(is_rule: bool, is_input: bool) -> &'static str {
     match (is_rule, is_input) {
         (true, true) => "when",
         (true, false) => "then",
@@ -214,9 +192,17 @@ pub fn tables(document: &Value) -> &[Value] {
     items_after(Some(document), "tables")
 }
 
-/// Whether the outputs of a table are single values, and not lists.
-pub fn has_single_values(table: &Value) -> bool {
-    !matches!(text_after(Some(table), "hit"), Some("R" | "O" | "C"))
+/// The entries of values that the tables after the one with this number may read, for number 0 the fields, and else the outputs of that table
+/// unless they are lists.
+pub fn single_values(document: &Value, number: usize) -> &[Value] {
+    if number == 0 {
+        return items_after(Some(document), "fields");
+    }
+    let table = tables(document).get(number - 1);
+    match text_after(table, "hit") {
+        Some("R" | "O" | "C") => &[],
+        _ => items_after(table, "outputs"),
+    }
 }
 
 /// The length of the array at a key of the value at the end of the steps; 0 if there is none.

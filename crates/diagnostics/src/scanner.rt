@@ -1,44 +1,17 @@
 //! Finds the offsets of a document's keys and values, token by token. A text that is not TOML is scanned up to its first error.
 
+ghost use Rattle.std.specs.Prelude.{◌<◌};
+
 use crate::places::Places;
 use std::alloc::{AllocError, Global};
 use toml_parser::text::{byte_at, first, skip, skip_blank, skip_ws};
-use toml_parser::{Key, ParseError, dotted_key, quoted, starts_string, unquoted};
+use toml_parser::{ErrorKind, Key, ParseError, dotted_key, quoted, starts_string, unquoted};
 
 /// An array or an inline table that is not closed yet.
 #[derive(Clone, Copy)]
 struct Open {
     number: usize,
     is_array: bool,
-}
-
-/// The reason why scanning ends early.
-#[derive(Drop)]
-enum Ended {
-    OutOfMemory,
-    /// The text is not TOML.
-    NoDocument,
-}
-
-impl From<AllocError> for Ended {
-    fn from(_fault: AllocError) -> Ended {
-        Ended::OutOfMemory
-    }
-}
-
-impl<T: Drop> From<std::alloc::AllocFailed<T>> for Ended {
-    fn from(_fault: std::alloc::AllocFailed<T>) -> Ended {
-        Ended::OutOfMemory
-    }
-}
-
-impl From<ParseError> for Ended {
-    fn from(fault: ParseError) -> Ended {
-        match fault {
-            ParseError::OutOfMemory => Ended::OutOfMemory,
-            ParseError::At(..) => Ended::NoDocument,
-        }
-    }
 }
 
 #[derive(Drop)]
@@ -65,8 +38,8 @@ pub fn places_of(alloc: Global, text: &str) -> Result<Places, AllocError> {
     for _ in 0..=text.len() {
         match scanner.step() {
             Ok(true) => {}
-            Ok(false) | Err(Ended::NoDocument) => break,
-            Err(Ended::OutOfMemory) => return Err(AllocError),
+            Err(ParseError::OutOfMemory) => return Err(AllocError),
+            Ok(false) | Err(_) => break,
         }
     }
     Ok(scanner.places)
@@ -77,8 +50,8 @@ impl<'t> Scanner<'t> {
         self.length.saturating_sub(self.rest.len())
     }
 
-    // Reads the next token. Returns false at the end of the text.
-    fn step(&mut self) -> Result<bool, Ended> {
+    // Reads the next token. Returns false at the end of the text. The error is that the text is not TOML, or that memory ran out.
+    fn step(&mut self) -> Result<bool, ParseError> {
         self.rest = skip_blank(self.rest, true);
         if self.rest.is_empty() {
             return Ok(false);
@@ -91,7 +64,7 @@ impl<'t> Scanner<'t> {
     }
 
     // Reads a token in an array or an inline table.
-    fn within(&mut self, open: Open) -> Result<(), Ended> {
+    fn within(&mut self, open: Open) -> Result<(), ParseError> {
         match first(self.rest) {
             b',' => self.rest = skip(self.rest, 1),
             b']' | b'}' => {
@@ -100,7 +73,7 @@ impl<'t> Scanner<'t> {
             }
             _ if open.is_array => {
                 let at = self.at();
-                let number = self.places.push(open.number, None, at)?;
+                let number = self.places.push(open.number, None, at, at)?;
                 self.value(number)?;
             }
             _ => self.pair(open.number)?,
@@ -109,33 +82,39 @@ impl<'t> Scanner<'t> {
     }
 
     // Reads a header, or a key with its value.
-    fn line(&mut self) -> Result<(), Ended> {
-        if first(self.rest) != b'[' {
-            return self.pair(self.section);
-        }
-        let at = self.at();
-        let is_array = byte_at(self.rest, 1) == b'[';
-        self.rest = skip(self.rest, 1);
-        if is_array && first(self.rest) == b'[' {
-            self.rest = skip(self.rest, 1);
-        }
-        let (parent, last) = self.path(0)?;
-        self.section = if is_array {
-            let array = self.places.array_under(parent, last, at)?;
-            self.places.push(array, None, at)?
+    fn line(&mut self) -> Result<(), ParseError> {
+        if first(self.rest) == b'[' {
+            self.header()
         } else {
-            self.places.table_under(parent, last.as_str(), at)?
-        };
-        for _ in 0..2 {
-            if first(self.rest) == b']' {
-                self.rest = skip(self.rest, 1);
-            }
+            self.pair(self.section)
         }
+    }
+
+    fn header(&mut self) -> Result<(), ParseError> {
+        let at = self.at();
+        let _ = self.skip_if(b'[');
+        let is_array = self.skip_if(b'[');
+        let (parent, last) = self.path(0)?;
+        self.section = self.places.section(parent, last, at, is_array)?;
+        let _ = self.skip_if(b']');
+        let _ = self.skip_if(b']');
         Ok(())
     }
 
+    // Whether the next byte is this one, which is then skipped.
+    fn skip_if(&mut self, byte: u8) -> bool
+        requires some { 0 < byte }
+        requires ascii { byte < 128 }
+    {
+        let is_next = first(self.rest) == byte;
+        if is_next {
+            self.rest = skip(self.rest, 1);
+        }
+        is_next
+    }
+
     // Reads a dotted key. Returns the table of its last part, and that part.
-    fn path(&mut self, table: usize) -> Result<(usize, String), Ended> {
+    fn path(&mut self, table: usize) -> Result<(usize, String), ParseError> {
         let at = self.at();
         let (key, rest) = dotted_key(self.alloc, skip_ws(self.rest))?;
         self.rest = skip_ws(rest);
@@ -148,21 +127,20 @@ impl<'t> Scanner<'t> {
     }
 
     // Reads a key with its value.
-    fn pair(&mut self, table: usize) -> Result<(), Ended> {
+    fn pair(&mut self, table: usize) -> Result<(), ParseError> {
         let at = self.at();
         let (parent, last) = self.path(table)?;
         if first(self.rest) != b'=' {
-            return Err(Ended::NoDocument);
+            return Err(ParseError::at(ErrorKind::MissingEquals, self.rest));
         }
         self.rest = skip_ws(skip(self.rest, 1));
-        let number = self.places.push(parent, Some(last), at)?;
         let value_at = self.at();
-        self.places.set_value_at(number, value_at);
+        let number = self.places.push(parent, Some(last), at, value_at)?;
         self.value(number)
     }
 
     // Reads a value; of an array or an inline table only the bracket.
-    fn value(&mut self, number: usize) -> Result<(), Ended> {
+    fn value(&mut self, number: usize) -> Result<(), ParseError> {
         let byte = first(self.rest);
         if byte == b'[' || byte == b'{' {
             self.rest = skip(self.rest, 1);

@@ -1,5 +1,6 @@
 //! The parts of a plan: the keys of each, and what their values must be.
 
+use crate::edits::is_one_edit;
 use faults::{FAMILY_ROLE_KEYS, ROLE_KEYS};
 use toml::Value;
 
@@ -64,17 +65,33 @@ impl Shape {
         !self.keys().is_empty()
     }
 
-    /// The part that is the value of a known key of this one.
-    pub fn key_shape(self, key: &str) -> Shape {
-        match (self, key) {
-            (Shape::Plan, "fields") => Shape::Fields,
-            (Shape::Plan, "tables") => Shape::Tables,
-            (Shape::Plan, "roles") => Shape::Roles,
-            (Shape::Table, "inputs") => Shape::Inputs,
-            (Shape::Table, "outputs") => Shape::Outputs,
-            (Shape::Table, "rules") => Shape::Rules,
+    fn has_key(self, key: &str, families: bool) -> bool {
+        self.keys().contains(&key) || (families && self.family_keys().contains(&key))
+    }
+
+    /// The part that is the value of a key of this one. Each key has values of the same shape in all parts.
+    pub fn key_shape(self, key: &str, families: bool) -> Shape {
+        if !self.has_key(key, families) {
+            return Shape::UnusedKey;
+        }
+        match key {
+            "fields" => Shape::Fields,
+            "tables" => Shape::Tables,
+            "roles" => Shape::Roles,
+            "inputs" => Shape::Inputs,
+            "outputs" => Shape::Outputs,
+            "rules" => Shape::Rules,
             _ => Shape::Plain,
         }
+    }
+
+    /// A known key of this part that is one edit away from the given one, if there is one.
+    pub fn near_key(self, key: &str, families: bool) -> Option<&'static str> {
+        let near = near_of(key, self.keys());
+        if near.is_none() && families {
+            return near_of(key, self.family_keys());
+        }
+        near
     }
 
     /// The part that is an item of this one, if this is an array.
@@ -101,6 +118,15 @@ impl Shape {
         }
         None
     }
+}
+
+fn near_of(key: &str, keys: &[&'static str]) -> Option<&'static str> {
+    for known in keys {
+        if is_one_edit(key.as_bytes(), known.as_bytes()) {
+            return Some(*known);
+        }
+    }
+    None
 }
 
 /// The type of the value at a key. Each key has the same type in all parts, and those of roles have none here.

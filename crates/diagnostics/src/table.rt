@@ -1,8 +1,8 @@
 //! Explains a fault of the tables, with the place of the table and the input in the plan's text.
 
-use crate::message::Message;
-use crate::plan_node::{add_input_name, path_to_input};
-use crate::texts::tables_explanation;
+use crate::message::{Message, explain};
+use crate::plan_node::{add_name_in_table, document_of, path_in_table};
+use crate::texts::{Explanation, tables_explanation};
 use faults::Fault;
 use std::alloc::{AllocError, Global};
 use toml::Value;
@@ -14,44 +14,32 @@ pub fn explain_tables(
     text: &[u8],
     fault: &Fault,
 ) -> Result<Message, AllocError> {
-    let mut message = Message::new(alloc);
+    let words = tables_explanation(fault);
     let (table, input) = match fault {
         Fault::Outside { table, column } => (*table, *column),
         Fault::NoRule { table } | Fault::Clash { table } | Fault::Range { table } => (*table, 0),
-        Fault::OutOfMemory => (0, 0),
+        Fault::OutOfMemory => return explain(alloc, words),
     };
-    if table > 0
-        && let Ok(text) = str::from_utf8(text)
-    {
-        add_table(alloc, &mut message, name, text, table, input)?;
-    }
-    message.words(tables_explanation(fault))?;
-    Ok(message)
+    let Some(document) = document_of(alloc, text)? else {
+        return explain(alloc, words);
+    };
+    let mut message = Message::new(alloc);
+    let done = add_input(&mut message, name, text, &document, table, input, words);
+    message.after(done)
 }
 
-fn add_table(
-    alloc: Global,
-    message: &mut Message,
-    name: &str,
-    text: &str,
-    table: usize,
-    input: usize,
-) -> Result<(), AllocError> {
-    match toml::table_from_str(alloc, text) {
-        Ok(members) => add_input(message, name, text, &Value::Table(members), table, input),
-        Err(fault) if fault.is_memory() => Err(AllocError),
-        Err(_) => Ok(()),
-    }
-}
-
+// Input 0 is the table itself.
 fn add_input(
     message: &mut Message,
     name: &str,
-    text: &str,
+    text: &[u8],
     document: &Value,
     table: usize,
     input: usize,
+    words: Explanation,
 ) -> Result<(), AllocError> {
-    message.place_of(name, text, path_to_input(table, input).as_slice())?;
-    add_input_name(message, document, table, input)
+    let path = path_in_table(document, table, 0, input);
+    message.place_of(name, text, path.as_slice())?;
+    add_name_in_table(message, document, table, 0, input)?;
+    message.words(words)
 }

@@ -5,7 +5,7 @@ use crate::system_texts::memory;
 use faults::{CellCause, Fault, PlanCause, PlanFault, RoleKey};
 
 /// The cause of an error, and how to fix it, each in whole sentences.
-#[derive(Clone, Copy, PartialEq, Eq)]
+#[derive(Clone, Copy)]
 pub struct Explanation {
     pub cause: &'static str,
     pub fix: &'static str,

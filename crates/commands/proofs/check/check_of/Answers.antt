@@ -1,4 +1,4 @@
-use Rattle.std.proofs.Common.{inr, rules}
+use Rattle.std.proofs.Common.{rules}
 use Rattle.value_command.proofs.Ends.{unjudged_not_done, unjudged_not_refused}
 use Rattle.commands.proofs.check.check_of.Goals as goal
 
