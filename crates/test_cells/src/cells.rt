@@ -6,13 +6,11 @@
 //! values. This keeps the proofs of the loops small.
 mod examples;
 mod limits;
-mod lists;
 mod table;
 
 use crate::ending::{expects, fail};
 use feel_tests::{
-    Cell, CellCause, CellFault, Kind, PlainFault, TEXT_LIMIT_BYTES, Text, Value, read_cell,
-    read_plain, read_value,
+    CellCause, CellFault, Kind, PlainFault, Value, read_cell, read_plain, read_value,
 };
 use std::alloc::Global;
 use std::process::Abort;
@@ -30,19 +28,8 @@ fn fault_of(alloc: Global, kind: Kind, text: &str) -> Option<CellFault> {
     }
 }
 
-fn literal_fault_of(alloc: Global, kind: Kind, text: &str) -> Option<CellFault> {
-    read_value(alloc, kind, text).err()
-}
-
 fn field_fault_of(alloc: Global, kind: Kind, field: &str) -> Option<PlainFault> {
     read_plain(alloc, kind, field).err()
-}
-
-fn cell_of(rt: &impl Abort, alloc: Global, kind: Kind, text: &str) -> Cell {
-    let Ok(cell) = read_cell(alloc, kind, text) else {
-        fail(rt, text)
-    };
-    cell
 }
 
 // Reads a literal, even if one allocation is refused.
@@ -65,53 +52,6 @@ fn plain_of(rt: &impl Abort, alloc: Global, kind: Kind, field: &str) -> Value {
         fail(rt, field)
     };
     value
-}
-
-fn text_of(rt: &impl Abort, alloc: Global, text: &str) -> Text {
-    assert!(rt; text.len() <= TEXT_LIMIT_BYTES);
-    Text::new(alloc, text).expect(rt, "memory for a text")
-}
-
-// Returns whether a cell of the kind holds for the value of a plain field of the kind `of`.
-fn holds(rt: &impl Abort, alloc: Global, kind: Kind, text: &str, of: Kind, field: &str) -> bool {
-    let cell = cell_of(rt, alloc, kind, text);
-    let value = plain_of(rt, alloc, of, field);
-    cell.holds(&value)
-}
-
-// Requires that the texts are cells of the kind.
-fn are_cells(rt: &impl Abort, alloc: Global, kind: Kind, texts: &[&str]) {
-    for text in texts {
-        let text: &str = text;
-        expects(rt, fault_of(alloc, kind, text).is_none(), text);
-    }
-}
-
-// Requires that each text is not a cell of the kind, with a fault of this cause at this byte.
-fn are_refused(rt: &impl Abort, alloc: Global, kind: Kind, rows: &[(&str, CellCause, usize)]) {
-    for row in rows {
-        let (text, cause, at) = *row;
-        let fault = Some(CellFault { at, cause });
-        expects(rt, fault_of(alloc, kind, text) == fault, text);
-    }
-}
-
-// Requires that each text is not a literal of the kind, with a fault of this cause at this byte.
-fn are_no_literals(rt: &impl Abort, alloc: Global, kind: Kind, rows: &[(&str, CellCause, usize)]) {
-    for row in rows {
-        let (text, cause, at) = *row;
-        let fault = Some(CellFault { at, cause });
-        expects(rt, literal_fault_of(alloc, kind, text) == fault, text);
-    }
-}
-
-// Requires that each cell holds, or does not hold, for the value of the plain field in its row.
-fn hold(rt: &impl Abort, alloc: Global, kind: Kind, rows: &[(&str, &str, bool)]) {
-    for row in rows {
-        let (text, field, wanted) = *row;
-        let held = holds(rt, alloc, kind, text, kind, field);
-        expects(rt, held == wanted, text);
-    }
 }
 
 // Returns `times` copies of a piece between a front and a back.

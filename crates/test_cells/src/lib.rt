@@ -1,15 +1,11 @@
-//! Tests of `fixpoint`, `faults` and `feel_tests` by worked examples. They are outside these
-//! crates, because the tests of a crate are proved together with all of its code, and they share
-//! one crate, because each test program costs the time to read the libraries that it uses.
+//! Tests of `fixpoint` and `feel_tests` by worked examples. They are outside these crates, because
+//! the tests of a crate are proved together with all of its code, and they share one crate, because
+//! each test program costs the time to read the libraries that it uses.
 #![tactic(auto)]
 
-#[cfg(test)]
-mod cell_faults;
 #[cfg(test)]
 mod cells;
 #[cfg(test)]
 mod ending;
 #[cfg(test)]
 mod numbers;
-#[cfg(test)]
-mod roles;

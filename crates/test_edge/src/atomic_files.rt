@@ -67,24 +67,12 @@ fn check_commit(
 }
 
 #[test]
-fn whole_text_takes_the_place(rt: HostRuntime) {
-    expects(
-        &rt,
-        check_commit(&rt, rt.alloc(), false, true, true, b"new text"),
-        "the new text",
-    );
-}
-
-#[test]
-fn old_text_stays_under_one_that_is_cut_or_refused(rt: HostRuntime) {
-    expects(
-        &rt,
-        check_commit(&rt, rt.alloc(), false, false, true, b"old"),
-        "the old text under a cut one",
-    );
-    expects(
-        &rt,
-        check_commit(&rt, rt.alloc(), true, true, false, b"old"),
-        "the old text under a refused one",
-    );
+fn only_a_whole_text_takes_the_place(rt: HostRuntime) {
+    let alloc = rt.alloc();
+    let whole = check_commit(&rt, alloc, false, true, true, b"new text");
+    expects(&rt, whole, "the new text");
+    let cut = check_commit(&rt, alloc, false, false, true, b"old");
+    expects(&rt, cut, "the old text under a cut one");
+    let refused = check_commit(&rt, alloc, true, true, false, b"old");
+    expects(&rt, refused, "the old text under a refused one");
 }

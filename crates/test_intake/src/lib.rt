@@ -9,6 +9,4 @@ mod claims;
 #[cfg(test)]
 mod ending;
 #[cfg(test)]
-mod summaries;
-#[cfg(test)]
 mod terms;

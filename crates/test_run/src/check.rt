@@ -1,8 +1,6 @@
-//! Worked examples of `do_check`, which also show what no clause promises: that the command
-//! succeeds if memory and the writer allow it.
+//! `do_check` over writers that fail, and with memory refused.
 use crate::testing::{
-    Narrow, WhenFull, expects, expects_at, is_cut, is_printed, is_refused, is_whole,
-    is_whole_or_none, says,
+    Narrow, WhenFull, expects, expects_at, is_cut, is_printed, is_whole, is_whole_or_none, says,
 };
 use adjudicate::{do_check, do_errors_check};
 use fixpoint::Out;
@@ -11,10 +9,7 @@ use std::process::Abort;
 
 mod regions;
 
-use regions::{
-    NO_RULES, REPORTED_AS_ERRORS, REPORTED_OF_TWO_TABLES, REPORTED_OF_WIDE_AND_OVERLAPPING,
-    SOME_ERRORS, TWO_TABLES, WIDE_AND_OVERLAPPING,
-};
+use regions::{REPORTED_AS_ERRORS, SOME_ERRORS};
 
 /// One number column with a gap of one number between two rules, and a gap above them.
 const TWO_GAPS: &str = "version = 1
@@ -27,61 +22,6 @@ rules = [{when = ['<1'], then = ['1']}, {when = ['[1.0001..5]'], then = ['2']}]
 
 const REPORTED_GAPS: &str = "gap table 1: 1\ngap table 1: >5\ngaps 2 overlaps 0\n";
 
-/// One number column, where both rules match 5.
-const ONE_OVERLAP: &str = "version = 1
-fields = [{name = \"x\", kind = \"number\"}]
-[[tables]]
-inputs = [{name = \"x\"}]
-outputs = [{name = \"y\", kind = \"number\"}]
-rules = [{when = ['<=5'], then = ['1']}, {when = ['>=5'], then = ['2']}]
-";
-
-/// One text column, where each rule matches one text.
-const TWO_TEXTS: &str = "version = 1
-fields = [{name = \"code\", kind = \"text\"}]
-[[tables]]
-inputs = [{name = \"code\"}]
-outputs = [{name = \"y\", kind = \"number\"}]
-rules = [{when = ['\"A\"'], then = ['1']}, {when = ['\"B\"'], then = ['2']}]
-";
-
-/// `TWO_TEXTS`, but with only these two texts as allowed values.
-const ALLOWED_TEXTS: &str = "version = 1
-fields = [{name = \"code\", kind = \"text\"}]
-[[tables]]
-inputs = [{name = \"code\", values = '\"A\",\"B\"'}]
-outputs = [{name = \"y\", kind = \"number\"}]
-rules = [{when = ['\"A\"'], then = ['1']}, {when = ['\"B\"'], then = ['2']}]
-";
-
-/// Four number columns of 17 regions each, which have more cells than a check may have.
-const WIDE: &str = "version = 1
-fields = [{name = \"x\", kind = \"number\"}]
-[[tables]]
-inputs = [{name = \"x\"}, {name = \"x\"}, {name = \"x\"}, {name = \"x\"}]
-outputs = [{name = \"y\", kind = \"number\"}]
-rules = [{when = ['1,2,3,4,5,6,7,8', '1,2,3,4,5,6,7,8', '1,2,3,4,5,6,7,8', '1,2,3,4,5,6,7,8'], then = ['1']}]
-";
-
-/// A plan and the output.
-const PRINTED: &[(&str, &str)] = &[
-    (TWO_GAPS, REPORTED_GAPS),
-    (
-        ONE_OVERLAP,
-        "overlap table 1: rules 1 2\ngaps 0 overlaps 1\n",
-    ),
-    (
-        TWO_TEXTS,
-        "gap table 1: not(\"A\",\"B\")\ngaps 1 overlaps 0\n",
-    ),
-    (ALLOWED_TEXTS, "gaps 0 overlaps 0\n"),
-    (WIDE, "wide table 1\ngaps 0 overlaps 0\n"),
-    (TWO_TABLES, REPORTED_OF_TWO_TABLES),
-    (WIDE_AND_OVERLAPPING, REPORTED_OF_WIDE_AND_OVERLAPPING),
-    (NO_RULES, "gap table 1: - ; -\ngaps 1 overlaps 0\n"),
-    ("version = 1\n", "gaps 0 overlaps 0\n"),
-];
-
 /// Writers by the greatest number of bytes of a write.
 const WRITERS: &[(usize, WhenFull)] = &[
     (1, WhenFull::Fails),
@@ -92,20 +32,6 @@ const WRITERS: &[(usize, WhenFull)] = &[
     (64, WhenFull::TakesNothing),
 ];
 
-fn gives(alloc: Global, plan: &str, text: &str) -> bool {
-    let mut out = Out::new(Vec::new(alloc));
-    let result = do_check(alloc, plan.as_bytes(), &mut out);
-    is_printed(result, out, text)
-}
-
-#[test]
-fn gaps_overlaps_and_wide_tables(rt: HostRuntime) {
-    for row in PRINTED {
-        let (plan, text) = *row;
-        expects(&rt, gives(rt.alloc(), plan, text), text);
-    }
-}
-
 #[test]
 fn gaps_and_overlaps_that_are_errors(rt: HostRuntime) {
     let alloc = rt.alloc();
@@ -115,18 +41,6 @@ fn gaps_and_overlaps_that_are_errors(rt: HostRuntime) {
         &rt,
         is_printed(result, out, REPORTED_AS_ERRORS),
         "this text",
-    );
-}
-
-#[test]
-fn a_text_that_is_no_plan_is_refused(rt: HostRuntime) {
-    let alloc = rt.alloc();
-    let mut out = Out::new(Vec::new(alloc));
-    let result = do_check(alloc, b"version = 4\n", &mut out);
-    expects(
-        &rt,
-        is_refused(result, out, "plan fault 3 table 0 rule 0 column 0\n"),
-        "this line",
     );
 }
 

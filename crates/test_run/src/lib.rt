@@ -1,11 +1,13 @@
-//! Tests of `crew`, `remit` and `adjudicate` by worked examples. They have a crate of their own,
-//! because the tests of a crate are proved together with all of its code.
+//! Tests of `crew`, `remit` and `adjudicate`. They have a crate of their own, because the tests of a
+//! crate are proved together with all of its code.
+//!
+//! What a command writes for which texts is shown by the cases of the program. These tests show what
+//! a case can't: writers that fail after any number of bytes, memory that is refused, and threads on
+//! a gate that others use too.
 #![tactic(auto)]
 
 #[cfg(test)]
 mod check;
-#[cfg(test)]
-mod counts;
 #[cfg(test)]
 mod reports;
 #[cfg(test)]

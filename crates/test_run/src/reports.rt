@@ -1,117 +1,100 @@
-//! Worked remittances: the journals and the remittances are written by hand.
-use crate::testing::{WhenFull, expects};
+//! `write_report` over writers that fail, and with memory refused. A refused allocation before a
+//! report is tried once more.
+ghost use Rattle.std.specs.Prelude.{◌≡◌};
+
+use crate::testing::{Narrow, WhenFull, expects, expects_at, fail, plan_of, terms_of};
+use claim_gate::{Batch, GateState, Terms};
 use fixpoint::Out;
-use journal::Event;
-use remit::WriteCause;
+use remit::{WriteCause, WriteFault, write_report};
 use std::alloc::Global;
+use std::io::Write;
 use std::process::Abort;
-use test_fixtures::{both_files, empty_remittance, header, late_remittance, remittance};
+use test_fixtures::{both_files, late_remittance};
 
-mod journals;
-mod lengths;
-mod texts;
-mod threads;
-mod writing;
+fn gate_of<'t>(rt: &impl Abort, alloc: Global, terms: &'t Terms<'t>) -> GateState<'t>
+    ensures { result.terms ≡ terms.now }
+{
+    if let Ok(gate) = GateState::new(alloc, terms) {
+        return gate;
+    }
+    GateState::new(alloc, terms).expect(rt, "memory for a gate")
+}
 
-use journals::{of_all_reasons, of_both_files, of_great_amounts, of_no_claims, of_one_denied};
-use writing::{is_filled, is_whole, with_room, write_late, write_over};
+// Returns a run that accepted no claim.
+fn late_batch<'t>(rt: &impl Abort, alloc: Global, terms: &'t Terms<'t>) -> Batch<'t>
+    ensures { result.terms ≡ terms.now }
+{
+    let gate = gate_of(rt, alloc, terms);
+    let Ok(batch) = Batch::from_state(gate, terms) else {
+        fail(rt, "a run that is over")
+    };
+    batch
+}
 
-// Returns whether the whole report was written. If it was, it must be this one.
-fn reports(
+fn write_late_over<W: Write>(
+    rt: &impl Abort,
+    alloc: Global,
+    terms: &Terms,
+    out: &mut Out<W>,
+) -> Result<(), WriteFault> {
+    let batch = late_batch(rt, alloc, terms);
+    write_report(alloc, terms, &batch, out)
+}
+
+// Writes the report of a run that accepts no claim of these files.
+fn write_late<W: Write>(
     rt: &impl Abort,
     alloc: Global,
     files: &[&[u8]],
-    cutoff: Option<u64>,
-    journal: &[Event],
+    out: &mut Out<W>,
+) -> Result<(), WriteFault> {
+    let plan = plan_of(rt, alloc);
+    let terms = terms_of(rt, alloc, &plan, files, Some(0));
+    write_late_over(rt, alloc, &terms, out)
+}
+
+// Returns whether the whole report was written. Otherwise the writer has received its first bytes,
+// and the fault has their number: a `Vec` that cannot grow is a writer that fails.
+fn is_whole(
+    rt: &impl Abort,
+    answer: Result<(), WriteFault>,
+    out: Out<Vec<u8>>,
     report: &[u8],
 ) -> bool {
-    let mut out = Out::new(Vec::new(alloc));
-    let answer = write_over(rt, alloc, files, cutoff, journal, &mut out);
-    is_whole(rt, answer, out, report)
-}
-
-fn reports_both(rt: &impl Abort, alloc: Global, journal: &[Event]) -> bool {
-    reports(
-        rt,
-        alloc,
-        both_files(),
-        None,
-        journal,
-        remittance().as_bytes(),
-    )
-}
-
-#[test]
-fn the_report_of_two_files_though_memory_is_refused(rt: HostRuntime) {
-    let journal = of_both_files(&rt, rt.alloc());
-    if !reports_both(&rt, rt.alloc(), &journal) {
-        expects(&rt, reports_both(&rt, rt.alloc(), &journal), "this report");
+    let has_failed = out.failed();
+    let taken = out.into_inner();
+    match answer {
+        Ok(()) => {
+            expects(rt, !has_failed && taken.as_slice() == report, "the report");
+            true
+        }
+        Err(fault) => {
+            expects(
+                rt,
+                taken.len() == fault.written && report.starts_with(taken.as_slice()),
+                "its first bytes",
+            );
+            false
+        }
     }
 }
 
-#[test]
-fn the_report_of_no_claims(rt: HostRuntime) {
-    let journal = of_no_claims(&rt, rt.alloc());
-    let report = empty_remittance().as_bytes();
-    expects(
-        &rt,
-        reports(&rt, rt.alloc(), &[header()], None, &journal, report),
-        "this report",
-    );
+// Returns a writer with room for `limit` bytes, which takes at most 1,000 bytes a write.
+fn with_room(rt: &impl Abort, alloc: Global, limit: usize, when_full: WhenFull) -> Out<Narrow> {
+    Out::new(Narrow::new(rt, alloc, limit, 1_000, when_full))
 }
 
-#[test]
-fn quotes_and_a_late_claim(rt: HostRuntime) {
-    let journal = of_one_denied(&rt, rt.alloc());
-    let files = [texts::quoted_file()];
-    expects(
-        &rt,
-        reports(
-            &rt,
-            rt.alloc(),
-            &files,
-            Some(1),
-            &journal,
-            texts::quoted_report(),
-        ),
-        "this report",
-    );
+fn is_cut_at(answer: Result<(), WriteFault>, written: usize) -> bool {
+    let cause = WriteCause::Device;
+    answer == Err(WriteFault { written, cause })
 }
 
-#[test]
-fn each_reason_has_its_text(rt: HostRuntime) {
-    let journal = of_all_reasons(&rt, rt.alloc());
-    let files = [texts::five()];
-    expects(
-        &rt,
-        reports(
-            &rt,
-            rt.alloc(),
-            &files,
-            Some(5),
-            &journal,
-            texts::reasons_report(),
-        ),
-        "this report",
-    );
-}
-
-#[test]
-fn totals_leave_the_range_of_numbers(rt: HostRuntime) {
-    let journal = of_great_amounts(&rt, rt.alloc());
-    let files = [texts::five()];
-    expects(
-        &rt,
-        reports(
-            &rt,
-            rt.alloc(),
-            &files,
-            Some(4),
-            &journal,
-            texts::great_report(),
-        ),
-        "this report",
-    );
+// Returns whether the writer has received as many first bytes of the report as it has room for,
+// and the answer has their number.
+fn is_filled(answer: Result<(), WriteFault>, out: Out<Narrow>, report: &[u8]) -> bool {
+    let has_failed = out.failed();
+    let narrow = out.into_inner();
+    is_cut_at(answer, narrow.limit()) && has_failed && narrow.has_first(report, narrow.limit())
 }
 
 // Returns whether the whole report of a run without accepted claims was written. If it was, it must
@@ -134,95 +117,23 @@ fn a_run_that_admits_nothing_though_memory_is_refused(rt: HostRuntime) {
     }
 }
 
-// Returns the first bytes, followed by `count` copies of others.
-fn repeat_bytes(
-    rt: &impl Abort,
-    alloc: Global,
-    first: &[u8],
-    then: &[u8],
-    count: usize,
-) -> Vec<u8> {
-    let mut text = Vec::new(alloc);
-    text.extend_from_slice(first)
-        .expect(rt, "memory for a text");
-    for _ in 0..count {
-        text.extend_from_slice(then).expect(rt, "memory for a text");
-    }
-    text
-}
-
-// Returns a file with one record, whose member has 257 bytes.
-fn too_long(rt: &impl Abort, alloc: Global) -> Vec<u8> {
-    let mut text = repeat_bytes(
+// The run accepts no claim of both files.
+fn fills_late(rt: &impl Abort, alloc: Global, limit: usize, when_full: WhenFull) {
+    let mut out = with_room(rt, alloc, limit, when_full);
+    let answer = write_late(rt, alloc, both_files(), &mut out);
+    expects_at(
         rt,
-        alloc,
-        b"claim,member,service,billed,code\nh,",
-        b"x",
-        257,
-    );
-    text.extend_from_slice(b",2024-01-01,1.00,A\n")
-        .expect(rt, "memory for a text");
-    text
-}
-
-#[test]
-fn each_fault_of_a_record_has_its_text(rt: HostRuntime) {
-    let long = too_long(&rt, rt.alloc());
-    let files = [texts::faults(), texts::no_text(), long.as_slice()];
-    expects(
-        &rt,
-        reports_late(&rt, rt.alloc(), &files, texts::faults_report()),
-        "this report",
+        is_filled(answer, out, late_remittance().as_bytes()),
+        limit,
     );
 }
 
 #[test]
-fn a_writer_that_takes_nothing(rt: HostRuntime) {
-    let journal = of_no_claims(&rt, rt.alloc());
-    let mut out = with_room(&rt, rt.alloc(), 0, WhenFull::TakesNothing);
-    let answer = write_over(&rt, rt.alloc(), &[header()], None, &journal, &mut out);
-    expects(&rt, is_filled(answer, out, b""), "the first bytes");
-}
-
-// Appends the report's records for a provider's file whose records have one field each.
-fn push_one_field_records(
-    rt: &impl Abort,
-    alloc: Global,
-    text: &mut String,
-    provider: usize,
-    count: usize,
-) {
-    for number in 0..count {
-        let line = format!(in alloc;
-            "{provider},{},,,refused,fieldcount,,,,,,,\r\n",
-            number.saturating_add(1)
-        )
-        .expect(rt, "memory for a line");
-        text.push_str(line.as_str()).expect(rt, "memory for a text");
+fn a_report_of_a_run_is_cut_at_each_length(rt: HostRuntime) {
+    for limit in 0..late_remittance().len() {
+        fills_late(&rt, rt.alloc(), limit, WhenFull::Fails);
+        fills_late(&rt, rt.alloc(), limit, WhenFull::TakesNothing);
     }
-}
-
-// Returns the beginning of the report for a file whose records have one field each.
-fn one_field_records(rt: &impl Abort, alloc: Global, count: usize) -> String {
-    let mut text = String::new(alloc);
-    text.push_str(texts::header_record())
-        .expect(rt, "memory for a text");
-    push_one_field_records(rt, alloc, &mut text, 1, count);
-    text
-}
-
-#[test]
-fn bytes_are_counted_over_pieces(rt: HostRuntime) {
-    let file = repeat_bytes(&rt, rt.alloc(), header(), b"x\n", 3_000);
-    let wanted = one_field_records(&rt, rt.alloc(), 3_000);
-    let files = [file.as_slice()];
-    let mut out = with_room(&rt, rt.alloc(), 66_000, WhenFull::Fails);
-    let answer = write_over(&rt, rt.alloc(), &files, Some(0), &[Event::Close], &mut out);
-    expects(
-        &rt,
-        is_filled(answer, out, wanted.as_bytes()),
-        "the first bytes",
-    );
 }
 
 #[test]

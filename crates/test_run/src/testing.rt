@@ -1,12 +1,13 @@
 //! Helpers that several tests share.
 use adjudicate::{LINE_LIMIT_BYTES, Stop, ValueStop};
 use claim_gate::Terms;
-use dtable::{Plan, read_plan};
+use dtable::read_plan;
 use fixpoint::Out;
 use std::alloc::Global;
 use std::io;
 use std::io::{ErrorKind, Write};
 use std::process::Abort;
+use tables::Plan;
 use test_fixtures::health_plan;
 
 /// Returns the plan of the worked examples. Here and below, a refused allocation is tried once

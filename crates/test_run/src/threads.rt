@@ -1,15 +1,15 @@
-//! Worked runs: the outcome of each claim is written by hand, and does not depend on the schedule.
-use crate::testing::{expects, expects_at, fail, plan_of, terms_of};
+//! Runs by several threads, on gates that other callers use too.
+use crate::testing::{expects, fail, plan_of, terms_of};
 use claim_gate::{Batch, Terms};
-use crew::{RunFault, WORKERS_LIMIT, run};
-use dtable::Plan;
-use journals::{comes_to, count_of, is_ends_and_close};
+use crew::{RunFault, run};
+use journals::is_ends_and_close;
 use std::alloc::Global;
 use std::fmt::Write;
 use std::process::Abort;
 use std::sync::Wait;
 use std::thread::Threads;
-use test_fixtures::{balances, both_files, header, second_file};
+use tables::Plan;
+use test_fixtures::{both_files, header};
 
 mod hostile;
 mod journals;
@@ -21,23 +21,6 @@ mod refusing;
 mod stopping;
 mod watched;
 
-const THREE: &str = "claim,member,service,billed,code
-e1,M3,2024-01-05,120.00,A
-e2,M3,2024-02-01,40.00,B
-e3,M4,2024-02-02,40.00,X
-";
-
-/// Refused records before the first claim, between the claims, and after the last.
-const REFUSED: &str = "claim,member,service,billed,code
-c,,2024-01-01,1.00,A
-a,\"M\"\"1\",2024-02-29,1.00,A
-b,M2,2024-01-01
-d,M,2024-02-30,1.00,A
-e,M,2024-01-01,-1.005,A
-d1,M2,2024-01-09,30.00,B
-f,M,2024-01-01,-1.00,A
-";
-
 /// The claims of both files by provider and place, and the number of events of each kind.
 const OUTCOMES_OF_BOTH: &str = "1 0 Paid 100.00 50.00 10.00 8.00 60.00 40.00 OVER
 1 1 Paid 40.00 0.00 10.00 6.00 0.00 40.00 MET
@@ -48,41 +31,9 @@ const OUTCOMES_OF_BOTH: &str = "1 0 Paid 100.00 50.00 10.00 8.00 60.00 40.00 OVE
 accepts 6 takes 6 decides 6 ends 2 closes 1
 ";
 
-/// The deductible is met and 10.00 was paid out of pocket at the start, so the shares 28.00, 16.00
-/// and 6.00 reach the out-of-pocket maximum of 60.00.
-const FROM_BALANCES: &str = "1 0 Paid 100.00 0.00 10.00 18.00 28.00 72.00 OVER MET
-1 1 Paid 40.00 0.00 10.00 6.00 16.00 24.00 MET
-1 2 Pended(NoRule { table: 1 }) 0.00 0.00 0.00 0.00 0.00 0.00
-1 3 Paid 100.00 0.00 10.00 18.00 6.00 94.00 MET
-2 0 Paid 30.00 30.00 0.00 0.00 30.00 0.00
-2 1 Denied 0.00 0.00 0.00 0.00 0.00 0.00
-accepts 6 takes 6 decides 6 ends 2 closes 1
-";
-
-const BETWEEN_REFUSED: &str = "1 0 Paid 1.00 1.00 0.00 0.00 1.00 0.00
-1 1 Paid 30.00 30.00 0.00 0.00 30.00 0.00
-accepts 2 takes 2 decides 2 ends 2 closes 1
-";
-
-// A function returns each text, so that its callers are proved without the text.
-fn file_three() -> &'static [u8] {
-    THREE.as_bytes()
-}
-
-fn refused_file() -> &'static [u8] {
-    REFUSED.as_bytes()
-}
-
+// A function returns the text, so that its callers are proved without it.
 fn outcomes_of_both() -> &'static str {
     OUTCOMES_OF_BOTH
-}
-
-fn from_balances() -> &'static str {
-    FROM_BALANCES
-}
-
-fn between_refused() -> &'static str {
-    BETWEEN_REFUSED
 }
 
 fn batch_of<'t, R: Threads + Wait + Abort + Sync>(
@@ -97,81 +48,6 @@ fn batch_of<'t, R: Threads + Wait + Abort + Sync>(
     }
 }
 
-// Runs with this number of workers, and compares the outcomes of the claims.
-fn runs_by<R: Threads + Wait + Abort + Sync>(
-    rt: &R,
-    alloc: Global,
-    terms: &Terms,
-    workers: usize,
-    wanted: &str,
-) {
-    let batch = batch_of(rt, alloc, terms, workers);
-    comes_to(rt, alloc, batch.journal(), terms.files().len(), wanted);
-    drop(batch);
-}
-
-fn runs_by_several<R: Threads + Wait + Abort + Sync>(
-    rt: &R,
-    alloc: Global,
-    terms: &Terms,
-    wanted: &str,
-) {
-    runs_by(rt, alloc, terms, 1, wanted);
-    runs_by(rt, alloc, terms, 2, wanted);
-    runs_by(rt, alloc, terms, 4, wanted);
-    runs_by(rt, alloc, terms, WORKERS_LIMIT, wanted);
-}
-
-fn runs_over<R: Threads + Wait + Abort + Sync>(
-    rt: &R,
-    alloc: Global,
-    plan: &Plan,
-    files: &[&[u8]],
-    balances: Option<&[u8]>,
-    wanted: &str,
-) {
-    let Ok(terms) = Terms::new(alloc, plan, files, balances, None) else {
-        fail(rt, "terms")
-    };
-    runs_by_several(rt, alloc, &terms, wanted);
-    drop(terms);
-}
-
-fn check_worked<R: Threads + Wait + Abort + Sync>(rt: &R, alloc: Global, plan: &Plan) {
-    runs_over(rt, alloc, plan, both_files(), None, outcomes_of_both());
-    let balances = Some(balances());
-    runs_over(rt, alloc, plan, both_files(), balances, from_balances());
-    let files = [refused_file(), header()];
-    runs_over(rt, alloc, plan, &files, None, between_refused());
-}
-
-// A run with a cutoff decides exactly the claims that it accepts.
-fn check_cutoff<R: Threads + Wait + Abort + Sync>(
-    rt: &R,
-    alloc: Global,
-    plan: &Plan,
-    cutoff: u64,
-    accepts: usize,
-) {
-    let files = [file_three(), file_three()];
-    let terms = terms_of(rt, alloc, plan, &files, Some(cutoff));
-    let batch = batch_of(rt, alloc, &terms, 2);
-    expects_at(rt, count_of(batch.journal(), "accepts") == accepts, accepts);
-    expects_at(rt, count_of(batch.journal(), "takes") == accepts, accepts);
-    expects_at(rt, count_of(batch.journal(), "decides") == accepts, accepts);
-    expects_at(rt, count_of(batch.journal(), "closes") == 1, accepts);
-    drop(batch);
-    drop(terms);
-}
-
-fn check_cutoffs<R: Threads + Wait + Abort + Sync>(rt: &R, alloc: Global, plan: &Plan) {
-    check_cutoff(rt, alloc, plan, 0, 0);
-    check_cutoff(rt, alloc, plan, 1, 1);
-    check_cutoff(rt, alloc, plan, 4, 4);
-    check_cutoff(rt, alloc, plan, 6, 6);
-    check_cutoff(rt, alloc, plan, 7, 6);
-}
-
 fn is(fault: RunFault, wanted: RunFault) -> bool {
     fault.number() == wanted.number()
 }
@@ -181,27 +57,6 @@ fn is_wanted_fault(fault: Option<RunFault>, wanted: RunFault) -> bool {
         Some(fault) => is(fault, wanted),
         None => false,
     }
-}
-
-fn check_workers<R: Threads + Wait + Abort + Sync>(
-    rt: &R,
-    alloc: Global,
-    terms: &Terms,
-    workers: usize,
-) {
-    match run(rt, alloc, terms, workers) {
-        Ok(_) => fail(rt, "a refusal"),
-        Err(fault) => expects_at(rt, is(fault, RunFault::Workers), workers),
-    }
-}
-
-fn check_crews<R: Threads + Wait + Abort + Sync>(rt: &R, alloc: Global, plan: &Plan) {
-    let files = [second_file()];
-    let terms = terms_of(rt, alloc, plan, &files, None);
-    check_workers(rt, alloc, &terms, 0);
-    check_workers(rt, alloc, &terms, WORKERS_LIMIT + 1);
-    check_workers(rt, alloc, &terms, usize::MAX);
-    drop(terms);
 }
 
 // Without claims, the journal has one end of each provider and the close.
@@ -233,9 +88,6 @@ fn check_headers<R: Threads + Wait + Abort + Sync>(rt: &R, alloc: Global, plan: 
 // The runs that a test checks.
 #[derive(Clone, Copy)]
 enum Runs {
-    OverTwoFiles,
-    UpToCutoffs,
-    OfOtherCrews,
     OverHeaders,
     OverManyClaims,
     ThoughRefused,
@@ -262,9 +114,6 @@ enum OnGates {
 fn check<R: Threads + Wait + Abort + Sync>(rt: &R, alloc: Global, runs: Runs) {
     let plan = plan_of(rt, alloc);
     match runs {
-        Runs::OverTwoFiles => check_worked(rt, alloc, &plan),
-        Runs::UpToCutoffs => check_cutoffs(rt, alloc, &plan),
-        Runs::OfOtherCrews => check_crews(rt, alloc, &plan),
         Runs::OverHeaders => check_headers(rt, alloc, &plan),
         Runs::OverManyClaims => many_claims::check_runs(rt, alloc, &plan),
         Runs::ThoughRefused => check_refused(rt, alloc, &plan),
@@ -292,21 +141,6 @@ fn check_on_gates<R: Threads + Wait + Abort + Sync>(
         OnGates::RefusedTwice => refusing::check_refused_twice(rt, alloc, plan),
     }
     drop(terms);
-}
-
-#[test]
-fn runs_over_two_files(rt: HostRuntime) {
-    check(&rt, rt.alloc(), Runs::OverTwoFiles);
-}
-
-#[test]
-fn a_run_up_to_a_cutoff(rt: HostRuntime) {
-    check(&rt, rt.alloc(), Runs::UpToCutoffs);
-}
-
-#[test]
-fn a_run_refuses_no_worker_and_too_many(rt: HostRuntime) {
-    check(&rt, rt.alloc(), Runs::OfOtherCrews);
 }
 
 #[test]

@@ -1,9 +1,5 @@
-//! Worked examples of `do_value`, which also show what no clause promises: that the command
-//! succeeds if memory and the writer allow it.
-use crate::testing::{
-    Narrow, WhenFull, expects, expects_at, is_cut, is_printed, is_refused, is_whole,
-    is_whole_or_none,
-};
+//! `do_value` over writers that fail, and with memory refused.
+use crate::testing::{Narrow, WhenFull, expects, expects_at, is_cut, is_whole, is_whole_or_none};
 use adjudicate::do_value;
 use fixpoint::Out;
 use std::alloc::Global;
@@ -27,37 +23,6 @@ outputs = [{name = \"z\", kind = \"number\"}, {name = \"y\", kind = \"number\"}]
 rules = [{when = ['<1', '-'], then = ['1', '-2']}, {when = ['>=1', '>5'], then = ['3', '.5']}]
 ";
 
-/// A plan, arguments, and the output.
-const PRINTED: &[(&str, &[&str], &str)] = &[
-    (PLAN, &["x=10"], "y = 2.5\n"),
-    (PLAN, &["x=9.9999"], "y = 1\n"),
-    (PLAN, &["x= 0 "], "y = 1\n"),
-    (CROSSED, &["a=0", "b=0"], "z = 1\ny = -2\n"),
-    (CROSSED, &["b=1", "a=5.0001"], "z = 3\ny = 0.5\n"),
-    ("version = 1\n", &[], ""),
-];
-
-/// A plan, arguments, and the line of the error.
-const REFUSED: &[(&str, &[&str], &str)] = &[
-    (PLAN, &["x=-1"], "fault norule:1\n"),
-    (PLAN, &[], "missing x\n"),
-    (CROSSED, &["b=1"], "missing a\n"),
-    (CROSSED, &[], "missing a\n"),
-    (
-        "version = 4\n",
-        &["x"],
-        "plan fault 3 table 0 rule 0 column 0\n",
-    ),
-    (PLAN, &["x"], "argument 1 fault 1\n"),
-    (PLAN, &["z=1"], "argument 1 fault 2\n"),
-    (PLAN, &["x=1", "x=2"], "argument 2 fault 3\n"),
-    (PLAN, &["x=["], "argument 1 fault 4 cell 1 at 0\n"),
-    (PLAN, &["x==1"], "argument 1 fault 4 cell 1 at 0\n"),
-    (PLAN, &["x="], "argument 1 fault 4 cell 1 at 0\n"),
-    (PLAN, &["x=1", "x"], "argument 2 fault 1\n"),
-    (PLAN, &["=1"], "argument 1 fault 2\n"),
-];
-
 /// Writers by the greatest number of bytes of a write.
 const WRITERS: &[(usize, WhenFull)] = &[
     (1, WhenFull::Fails),
@@ -71,42 +36,6 @@ const WRITERS: &[(usize, WhenFull)] = &[
 const ARGUMENTS: &[&str] = &["a=6", "b=1"];
 
 const TEXT: &str = "z = 3\ny = 0.5\n";
-
-fn gives(alloc: Global, plan: &str, arguments: &[&str], text: &str) -> bool {
-    let mut out = Out::new(Vec::new(alloc));
-    let result = do_value(alloc, plan.as_bytes(), arguments, &mut out);
-    is_printed(result, out, text)
-}
-
-fn refuses(alloc: Global, plan: &str, arguments: &[&str], line: &str) -> bool {
-    let mut out = Out::new(Vec::new(alloc));
-    let result = do_value(alloc, plan.as_bytes(), arguments, &mut out);
-    is_refused(result, out, line)
-}
-
-fn all_give(rt: &impl Abort, alloc: Global, rows: &[(&str, &[&str], &str)]) {
-    for row in rows {
-        let (plan, arguments, text) = *row;
-        expects(rt, gives(alloc, plan, arguments, text), text);
-    }
-}
-
-fn all_refuse(rt: &impl Abort, alloc: Global, rows: &[(&str, &[&str], &str)]) {
-    for row in rows {
-        let (plan, arguments, line) = *row;
-        expects(rt, refuses(alloc, plan, arguments, line), line);
-    }
-}
-
-#[test]
-fn prints_the_one_match(rt: HostRuntime) {
-    all_give(&rt, rt.alloc(), PRINTED);
-}
-
-#[test]
-fn refuses_what_has_no_value(rt: HostRuntime) {
-    all_refuse(&rt, rt.alloc(), REFUSED);
-}
 
 // A writer with room for `limit` bytes of the text receives exactly these.
 fn fills(rt: &impl Abort, alloc: Global, limit: usize, width: usize, when_full: WhenFull) -> bool {

@@ -1,5 +1,6 @@
-//! Tests of `faults`, `settlement` and `lanes` by worked examples. They are a crate of their own,
-//! since the tests of a crate are proved together with all of its code.
+//! Tests of `settlement` and `lanes` by worked examples that no run shows: calls that are refused
+//! memory, and hosts with valuers of their own. They are a crate of their own, since the tests of a
+//! crate are proved together with all of its code.
 #![tactic(auto)]
 
 #[cfg(test)]
@@ -8,5 +9,3 @@ mod ending;
 mod settling;
 #[cfg(test)]
 mod turns;
-#[cfg(test)]
-mod words;

@@ -5,27 +5,89 @@
 //! end of a scope is one step for each part of the value.
 
 mod adjudicators;
-mod claims;
-mod examples;
-mod families;
 mod host_valuer;
 mod input_classes;
-mod plans;
 
 use crate::ending::expects;
-use dtable::{Plan, PlanFault, Sequence, read_plan};
-use examples::{
-    Example, MOST, capped_example, first, paid_examples, rates, scored_examples, second,
-    treated_examples, uncapped_example, unpaid_examples, written_examples,
-};
-use feel_tests::{Day, Kind, PlainFault, TEXT_LIMIT_BYTES, Text, Value, read_plain};
+use dtable::{PlanFault, read_plan};
+use feel_tests::{Day, TEXT_LIMIT_BYTES, Text, Value};
 use fixpoint::Fixed;
-use plans::{chained_plan, faulty_plan, flat_plan, open, rate_of_claim};
-use settlement::{Acc, Claim, Money, Outcome, Remarks, Role, Verdict, after, decide, fields_of};
+use settlement::{Acc, Claim, Money, Outcome, after, decide};
 use std::alloc::{AllocError, Global};
 use std::fmt::Write;
 use std::process::Abort;
-use test_fixtures::health_plan;
+use tables::{Plan, Sequence, Valuer};
+use test_fixtures::family_plan;
+
+/// Accumulators: the amounts met, out of pocket and paid of the member, and the sums of what its
+/// family has met and paid out of pocket.
+pub type Sums = (i64, i64, i64, i64, i64);
+
+/// A claim's code, its billed amount and the accumulators before it, and the text of its outcome:
+/// the verdict, the allowed amount, deductible, copay, coinsurance, the member's share, the amount
+/// that the plan pays, the remarks, and the accumulators after the claim.
+type Example = (&'static str, i64, Sums, &'static str);
+
+/// Returns a plan for families with three chained tables: the second reads the tier from the first,
+/// and the third lists remarks for the output of the second.
+fn chained_plan() -> &'static str {
+    r#"
+version = 3
+fields = [{name = "code", kind = "text"}]
+
+[roles]
+cover = "covered"
+fee = "most"
+deductible = "50"
+copay = "10"
+rate = "0.2"
+oop_max = "60"
+remarks = "note"
+family_deductible = "80"
+family_oop_max = "100"
+
+[[tables]]
+inputs = [{name = "code"}, {name = "family"}]
+outputs = [{name = "tier", kind = "text"}]
+rules = [{when = ['"A"', '-'], then = ['"high"']}, {when = ['"B"', '"F1"'], then = ['"low"']}]
+
+[[tables]]
+inputs = [{name = "tier"}]
+outputs = [{name = "covered", kind = "flag"}, {name = "most", kind = "number"}]
+rules = [{when = ['"high"'], then = ['true', '100']}, {when = ['"low"'], then = ['true', '40']}]
+
+[[tables]]
+hit = "R"
+inputs = [{name = "most"}, {name = "met"}]
+outputs = [{name = "note", kind = "text"}]
+rules = [
+  {when = ['<50', '-'], then = ['"CAPPED"']},
+  {when = ['-', '>=50'], then = ['"MET"']},
+]
+"#
+}
+
+/// A claim under the chained tables of a member who has met the deductible and the out-of-pocket
+/// maximum. The fee caps what is allowed.
+fn capped_example() -> Example {
+    (
+        "B",
+        12_000,
+        (5_000, 6_000, 4_000, 5_000, 6_000),
+        "Paid 4000 0 1000 600 0 4000 CAPPED MET, 5000 6000 8000 5000 6000",
+    )
+}
+
+/// A claim under the chained tables of another member of the family, which leaves 30.00 of its
+/// deductible and 40.00 of its out-of-pocket maximum.
+fn uncapped_example() -> Example {
+    (
+        "A",
+        12_000,
+        (0, 0, 0, 5_000, 6_000),
+        "Paid 10000 3000 1000 1200 4000 6000, 3000 4000 6000 8000 10000",
+    )
+}
 
 /// Returns the amount of this count of cents.
 pub fn money(rt: &impl Abort, cents: i64) -> Money {
@@ -33,14 +95,15 @@ pub fn money(rt: &impl Abort, cents: i64) -> Money {
     Money::new(amount).expect(rt, "money")
 }
 
-/// Returns the accumulators of a member who is the only one of its family.
-pub fn acc(rt: &impl Abort, cents: (i64, i64, i64)) -> Acc {
-    let (met, oop, paid) = cents;
-    families::acc(rt, (met, oop, paid, met, oop))
-}
-
-fn cents(money: Money) -> i64 {
-    money.amount().units() / 100
+pub fn acc(rt: &impl Abort, sums: Sums) -> Acc {
+    let (met, oop, paid, fmet, foop) = sums;
+    Acc {
+        met: money(rt, met),
+        oop: money(rt, oop),
+        paid: money(rt, paid),
+        fmet: money(rt, fmet),
+        foop: money(rt, foop),
+    }
 }
 
 /// Copies a text of at most 256 bytes.
@@ -52,34 +115,18 @@ pub fn text(rt: &impl Abort, alloc: Global, text: &str) -> Text {
     }
 }
 
-fn value(rt: &impl Abort, alloc: Global, kind: Kind, text: &str) -> Value {
-    match plain_value(alloc, kind, text) {
-        Ok(value) => value,
-        Err(fault) => {
-            expects(rt, matches!(fault, PlainFault::OutOfMemory), "a value");
-            plain_value(alloc, kind, text).expect(rt, "a value")
-        }
-    }
-}
-
-// This call may be repeated. A function without a contract keeps the proofs of its callers small.
-fn plain_value(alloc: Global, kind: Kind, text: &str) -> Result<Value, PlainFault> {
-    read_plain(alloc, kind, text)
-}
-
-fn room(rt: &impl Abort, alloc: Global, count: usize) -> Sequence<Value> {
-    match Sequence::with_capacity(alloc, count) {
+fn room(rt: &impl Abort, alloc: Global) -> Sequence<Value> {
+    match Sequence::with_capacity(alloc, 1) {
         Ok(room) => room,
-        Err(_) => Sequence::with_capacity(alloc, count).expect(rt, "memory for values"),
+        Err(_) => Sequence::with_capacity(alloc, 1).expect(rt, "memory for a value"),
     }
 }
 
-fn values(rt: &impl Abort, alloc: Global, plan: &Plan, texts: &[&str]) -> Sequence<Value> {
-    let mut values = room(rt, alloc, texts.len());
-    for (data, text) in fields_of(plan).iter().zip(texts) {
-        let pushed = values.push(value(rt, alloc, data.kind, text));
-        expects(rt, pushed.is_ok(), "room for a value");
-    }
+// Returns the values of a claim's fields: its code.
+fn values(rt: &impl Abort, alloc: Global, code: &str) -> Sequence<Value> {
+    let mut values = room(rt, alloc);
+    let pushed = values.push(Value::Text(text(rt, alloc, code)));
+    expects(rt, pushed.is_ok(), "room for a value");
     values
 }
 
@@ -92,78 +139,44 @@ fn family_under(rt: &impl Abort, alloc: Global, plan: &Plan) -> Option<Text> {
     }
 }
 
-fn claim(rt: &impl Abort, alloc: Global, plan: &Plan, billed: i64, texts: &[&str]) -> Claim {
+fn claim(rt: &impl Abort, alloc: Global, plan: &Plan, billed: i64, code: &str) -> Claim {
     Claim {
         id: text(rt, alloc, "c1"),
         family: family_under(rt, alloc, plan),
         member: text(rt, alloc, "M1"),
         service: Day::from_epoch_day(19_727).expect(rt, "a day"),
         billed: money(rt, billed),
-        fields: values(rt, alloc, plan, texts),
-    }
-}
-
-fn decide_claim(
-    rt: &impl Abort,
-    alloc: Global,
-    plan: &Plan,
-    claim: &Claim,
-    before: &Acc,
-) -> Outcome {
-    match decided_once(rt, alloc, plan, claim, before) {
-        Ok(outcome) => outcome,
-        Err(_) => decided_once(rt, alloc, plan, claim, before).expect(rt, "memory for an outcome"),
+        fields: values(rt, alloc, code),
     }
 }
 
 // This call may be repeated.
-fn decided_once(
+fn decided_once<V: Valuer>(
     rt: &impl Abort,
     alloc: Global,
-    plan: &Plan,
+    valuer: &V,
     claim: &Claim,
     before: &Acc,
 ) -> Result<Outcome, AllocError> {
+    let plan = valuer.plan();
     assert!(rt; plan.roles().is_some());
     assert!(rt; claim.is_of(plan));
-    decide(alloc, plan, claim, *before)
+    decide(alloc, valuer, claim, *before)
 }
 
 // Writes an outcome as one line: its verdict, amounts and remarks, and the accumulators after it.
-// If `family` is true, the family's sums follow those of the member.
-fn outcome_text(
-    rt: &impl Abort,
-    alloc: Global,
-    outcome: &Outcome,
-    before: &Acc,
-    family: bool,
-) -> String {
+fn outcome_text(rt: &impl Abort, alloc: Global, outcome: &Outcome, before: &Acc) -> String {
     let mut reported = String::new(alloc);
-    if write_outcome(&mut reported, outcome, before, family).is_err() {
+    if write_outcome(&mut reported, outcome, before).is_err() {
         reported.clear();
-        let again = write_outcome(&mut reported, outcome, before, family);
+        let again = write_outcome(&mut reported, outcome, before);
         expects(rt, again.is_ok(), "memory for the line");
     }
     reported
 }
 
-fn write_outcome(
-    reported: &mut String,
-    outcome: &Outcome,
-    before: &Acc,
-    family: bool,
-) -> Result<(), AllocError> {
+fn write_outcome(reported: &mut String, outcome: &Outcome, before: &Acc) -> Result<(), AllocError> {
     write!(reported, "{:?}", outcome.verdict)?;
-    write_amounts(reported, outcome)?;
-    for place in 0..outcome.remarks.len() {
-        if let Some(remark) = outcome.remarks.get(place) {
-            write!(reported, " {remark}")?;
-        }
-    }
-    write_left(reported, after(*before, outcome), family)
-}
-
-fn write_amounts(reported: &mut String, outcome: &Outcome) -> Result<(), AllocError> {
     write_each(
         reported,
         &[
@@ -174,43 +187,52 @@ fn write_amounts(reported: &mut String, outcome: &Outcome) -> Result<(), AllocEr
             outcome.share,
             outcome.paid,
         ],
-    )
+    )?;
+    for place in 0..outcome.remarks.len() {
+        if let Some(remark) = outcome.remarks.get(place) {
+            write!(reported, " {remark}")?;
+        }
+    }
+    write_left(reported, after(*before, outcome))
 }
 
+// Writes amounts as counts of cents.
 fn write_each(reported: &mut String, amounts: &[Money]) -> Result<(), AllocError> {
     for amount in amounts {
-        write!(reported, " {}", cents(*amount))?;
+        write!(reported, " {}", amount.amount().units() / 100)?;
     }
     Ok(())
 }
 
-fn write_left(reported: &mut String, left: Option<Acc>, family: bool) -> Result<(), AllocError> {
+fn write_left(reported: &mut String, left: Option<Acc>) -> Result<(), AllocError> {
     match left {
-        Some(acc) => write_acc(reported, acc, family),
+        Some(acc) => {
+            reported.push(',')?;
+            write_each(reported, &[acc.met, acc.oop, acc.paid, acc.fmet, acc.foop])
+        }
         None => reported.push_str(", out of range"),
     }
 }
 
-fn write_acc(reported: &mut String, acc: Acc, family: bool) -> Result<(), AllocError> {
-    reported.push(',')?;
-    write_each(reported, &[acc.met, acc.oop, acc.paid])?;
-    if family {
-        write_each(reported, &[acc.fmet, acc.foop])?;
-    }
-    Ok(())
-}
-
 fn is_reported(rt: &impl Abort, alloc: Global, outcome: Outcome, example: &Example) {
     let (_, _, before, wanted) = example;
-    let reported = outcome_text(rt, alloc, &outcome, &acc(rt, *before), false);
+    let reported = outcome_text(rt, alloc, &outcome, &acc(rt, *before));
     expects(rt, reported.as_str() == *wanted, wanted);
     drop(outcome);
 }
 
-fn settles(rt: &impl Abort, alloc: Global, plan: &Plan, example: &Example) {
-    let (fields, billed, before, _) = example;
-    let claim = claim(rt, alloc, plan, *billed, fields);
-    let outcome = decide_claim(rt, alloc, plan, &claim, &acc(rt, *before));
+// Decides a claim by the valuer, and compares its outcome.
+fn settles<V: Valuer>(rt: &impl Abort, alloc: Global, valuer: &V, example: &Example) {
+    let (code, billed, before, _) = example;
+    let claim = claim(rt, alloc, valuer.plan(), *billed, code);
+    let before = acc(rt, *before);
+    let outcome = match decided_once(rt, alloc, valuer, &claim, &before) {
+        Ok(outcome) => outcome,
+        Err(_) => decided_once(rt, alloc, valuer, &claim, &before).expect(
+            rt,
+            "memory for an outcome",
+        ),
+    };
     is_reported(rt, alloc, outcome, example);
     drop(claim);
 }
@@ -230,114 +252,42 @@ fn read(alloc: Global, text: &str) -> Result<Plan, PlanFault> {
     read_plan(alloc, text.as_bytes())
 }
 
-// Decides each claim by a separate call of `decide`.
-fn decides(rt: &impl Abort, alloc: Global, text: &str, examples: &[Example]) {
-    let plan = plan(rt, alloc, text);
-    for example in examples {
-        settles(rt, alloc, &plan, example);
-    }
-    drop(plan);
-}
-
-#[test]
-fn amounts_written_in_the_plan(rt: HostRuntime) {
-    decides(&rt, rt.alloc(), flat_plan(), written_examples());
-}
-
-#[test]
-fn a_rate_above_one(rt: HostRuntime) {
-    expects(&rt, Role::Rate.number() == 5, "the rate's number");
-    decides(&rt, rt.alloc(), rate_of_claim(), rates());
-}
-
-#[test]
-fn who_pays_what(rt: HostRuntime) {
-    decides(&rt, rt.alloc(), open(), paid_examples());
-}
-
-#[test]
-fn the_first_role_that_is_not_what_it_must_be(rt: HostRuntime) {
-    decides(&rt, rt.alloc(), open(), unpaid_examples());
-}
-
-#[test]
-fn faults_of_the_tables(rt: HostRuntime) {
-    decides(&rt, rt.alloc(), faulty_plan(), scored_examples());
-}
-
-#[test]
-fn tables_give_cover_fee_and_remarks(rt: HostRuntime) {
-    decides(&rt, rt.alloc(), health_plan(), &[first(), second()]);
-    decides(&rt, rt.alloc(), health_plan(), treated_examples());
-}
-
 // `./check` runs this test once for each of its allocations, with that allocation refused.
 #[test]
 fn tables_in_a_chain_though_memory_is_refused(rt: HostRuntime) {
-    decides(
-        &rt,
-        rt.alloc(),
-        chained_plan(),
-        &[capped_example(), uncapped_example()],
-    );
+    let plan = plan(&rt, rt.alloc(), chained_plan());
+    settles(&rt, rt.alloc(), &plan, &capped_example());
+    settles(&rt, rt.alloc(), &plan, &uncapped_example());
+    drop(plan);
 }
 
-fn some_paid(rt: &impl Abort) -> Outcome {
-    Outcome {
-        verdict: Verdict::Paid,
-        allowed: money(rt, 900),
-        ded: money(rt, 100),
-        copay: money(rt, 800),
-        coins: money(rt, 700),
-        share: money(rt, 200),
-        paid: money(rt, 300),
-        remarks: Remarks::none(),
+fn copy(rt: &impl Abort, alloc: Global, claim: &Claim) -> Claim {
+    match claim.duplicate(alloc) {
+        Ok(copy) => copy,
+        Err(_) => claim.duplicate(alloc).expect(rt, "memory for a copy"),
     }
 }
 
-/// Accumulators, and the text of them after 1.00 more met, 2.00 more out of pocket and 3.00 more
-/// paid.
-fn added_examples() -> &'static [((i64, i64, i64), &'static str)] {
-    &[
-        ((MOST, 0, 0), ", out of range"),
-        ((0, MOST, 0), ", out of range"),
-        ((0, 0, MOST), ", out of range"),
-        ((1, 2, 3), ", 101 202 303"),
-        (
-            (MOST - 100, MOST - 200, MOST - 300),
-            ", 9999999999999 9999999999999 9999999999999",
-        ),
-    ]
+fn is_that_claim(plan: &Plan, claim: Claim) -> bool {
+    let same = claim.is_of(plan) && has_its_parts(&claim);
+    drop(claim);
+    same
 }
 
-fn leaves(rt: &impl Abort, alloc: Global, outcome: &Outcome, before: Acc, wanted: &str) {
-    let mut reported = String::new(alloc);
-    let written = write_left(&mut reported, after(before, outcome), false);
-    expects(rt, written.is_ok() && reported.as_str() == wanted, wanted);
+fn has_its_parts(claim: &Claim) -> bool {
+    claim.id.as_str() == "c1"
+        && claim.family().as_str() == "F1"
+        && claim.member.as_str() == "M1"
+        && claim.service.epoch_day() == 19_727
+        && claim.billed.amount().units() == 10_000
 }
 
 #[test]
-fn accumulators_leave_the_range_one_by_one(rt: HostRuntime) {
-    let outcome = some_paid(&rt);
-    for (before, wanted) in added_examples() {
-        leaves(&rt, rt.alloc(), &outcome, acc(&rt, *before), wanted);
-    }
-    drop(outcome);
-}
-
-fn may_cross_threads<T: Send + Sync>(_value: &T) {}
-
-#[test]
-fn an_outcome_may_cross_threads(rt: HostRuntime) {
-    let outcome = some_paid(&rt);
-    may_cross_threads(&outcome);
-    drop(outcome);
-}
-
-#[test]
-fn amounts_that_are_no_money(rt: HostRuntime) {
-    let below = Fixed::from_units(-100).expect(&rt, "a number");
-    expects(&rt, Money::new(below).is_none(), "nothing below zero");
-    let finer = Fixed::from_units(150).expect(&rt, "a number");
-    expects(&rt, Money::new(finer).is_none(), "whole cents");
+fn a_copy_of_a_claim_though_memory_is_refused(rt: HostRuntime) {
+    let plan = plan(&rt, rt.alloc(), family_plan());
+    let claim = claim(&rt, rt.alloc(), &plan, 100, "A");
+    let copied = copy(&rt, rt.alloc(), &claim);
+    expects(&rt, is_that_claim(&plan, copied), "the same claim");
+    drop(claim);
+    drop(plan);
 }

@@ -6,12 +6,12 @@ ghost use Rattle.lanes.specs.Calls.{IsInWork};
 
 use crate::ending::{expects, fail};
 use crate::settling::{acc, money, text};
-use dtable::Sequence;
 use feel_tests::Day;
 use lanes::{BoxedClaim, Lanes, ReadyClaim};
 use settlement::{Acc, Claim, Money};
 use std::alloc::{AllocFailed, Global};
 use std::process::Abort;
+use tables::Sequence;
 
 // Returns a claim of a member. The member is its own family unless `of` names one.
 fn claim(rt: &impl Abort, alloc: Global, id: &str, of: Option<&str>, member: &str) -> BoxedClaim {
@@ -36,11 +36,6 @@ fn claim(rt: &impl Abort, alloc: Global, id: &str, of: Option<&str>, member: &st
 // Adds a claim of a member who is its own family, in year 0.
 fn add(rt: &impl Abort, alloc: Global, lanes: &mut Lanes, id: &str, member: &str) {
     add_of(rt, alloc, lanes, id, (None, member, 0));
-}
-
-// Adds a claim of a member who is its own family, in the given year.
-fn add_in(rt: &impl Abort, alloc: Global, lanes: &mut Lanes, id: &str, account: (&str, u16)) {
-    add_of(rt, alloc, lanes, id, (None, account.0, account.1));
 }
 
 // Adds a claim of a family's member in the given year. If memory runs out, the claim must be
@@ -91,7 +86,7 @@ fn take(lanes: &mut Lanes) -> Option<ReadyClaim>
 // met. The claim is passed by value, since each function that drops a claim costs seconds of proof.
 fn check_claim(rt: &impl Abort, picked: ReadyClaim, position: usize, id: &str, met: (i64, i64)) {
     expects(rt, is_claim(&picked, position, id), id);
-    let before = picked.start(acc(rt, (100, 0, 0)));
+    let before = picked.start(acc(rt, (100, 0, 0, 100, 0)));
     let begun = picked.has_begun();
     drop(picked);
     expects(rt, before.met == money(rt, met.0), "the amount met");
@@ -113,55 +108,13 @@ fn decide_next(rt: &impl Abort, lanes: &mut Lanes, position: usize, id: &str, me
     let picked = take(lanes).expect(rt, "a claim");
     let place = picked.position;
     check_claim(rt, picked, position, id, (met, met));
-    match lanes.decide(place, acc(rt, (left, 0, 0))) {
+    match lanes.decide(place, acc(rt, (left, 0, 0, left, 0))) {
         Ok(()) => {}
         Err(_) => lanes
-            .decide(place, acc(rt, (left, 0, 0)))
+            .decide(place, acc(rt, (left, 0, 0, left, 0)))
             .expect(rt, "memory for a decision"),
     }
     expects(rt, lanes.is_decided(position), id);
-}
-
-// Takes a ready claim, which must have this identifier.
-fn take_next(rt: &impl Abort, lanes: &mut Lanes, position: usize, id: &str, met: (i64, i64)) {
-    let picked = take(lanes).expect(rt, "a claim");
-    check_claim(rt, picked, position, id, met);
-}
-
-// Takes the two ready claims, of which the second must have this position and identifier.
-fn take_two(rt: &impl Abort, lanes: &mut Lanes, position: usize, id: &str) {
-    take_next(rt, lanes, 0, "a", (100, 100));
-    take_next(rt, lanes, position, id, (100, 100));
-    expects(rt, is_none_ready(lanes), "no claim that is ready");
-}
-
-// The first member has three claims, of which only the first is ready. The second member has one
-// claim between them, which is ready.
-fn take_turns(rt: &impl Abort, alloc: Global) {
-    let mut lanes = Lanes::new(alloc);
-    add(rt, alloc, &mut lanes, "a", "M1");
-    add(rt, alloc, &mut lanes, "b", "M2");
-    add(rt, alloc, &mut lanes, "c", "M1");
-    add(rt, alloc, &mut lanes, "d", "M1");
-    expects(rt, lanes.len() == 4, "four claims");
-    take_two(rt, &mut lanes, 1, "b");
-    let decided = lanes.is_decided(0) || lanes.is_decided(4);
-    expects(rt, !decided, "no decision");
-}
-
-// A member's next claim begins with the accumulators after the last one, even if it is added after
-// that decision.
-fn go_on(rt: &impl Abort, alloc: Global) {
-    let mut lanes = Lanes::new(alloc);
-    add(rt, alloc, &mut lanes, "a", "M1");
-    add(rt, alloc, &mut lanes, "b", "M1");
-    add(rt, alloc, &mut lanes, "c", "M2");
-    decide_next(rt, &mut lanes, 0, "a", 100, 700);
-    decide_next(rt, &mut lanes, 2, "c", 100, 300);
-    decide_next(rt, &mut lanes, 1, "b", 700, 900);
-    expects(rt, is_none_ready(&mut lanes), "no claim that is ready");
-    add(rt, alloc, &mut lanes, "d", "M1");
-    decide_next(rt, &mut lanes, 3, "d", 900, 950);
 }
 
 // Prefetches a claim of a member who has a claim already, and one of a new member.
@@ -172,39 +125,21 @@ fn prefetch(rt: &impl Abort, alloc: Global, lanes: &mut Lanes) {
     ]);
 }
 
-// A prefetch changes nothing, even if other claims are added than those that were prefetched.
-fn prefetch_others(rt: &impl Abort, alloc: Global) {
+// A member's next claim begins with the accumulators after the last one, even if it is added after
+// that decision. A prefetch changes nothing, even if other claims are added than those that were
+// prefetched.
+fn go_on(rt: &impl Abort, alloc: Global) {
     let mut lanes = Lanes::new(alloc);
     add(rt, alloc, &mut lanes, "a", "M1");
-    add(rt, alloc, &mut lanes, "b", "M2");
+    add(rt, alloc, &mut lanes, "b", "M1");
     prefetch(rt, alloc, &mut lanes);
-    expects(rt, lanes.len() == 2, "two claims");
     add(rt, alloc, &mut lanes, "c", "M2");
     decide_next(rt, &mut lanes, 0, "a", 100, 700);
-    decide_next(rt, &mut lanes, 1, "b", 100, 300);
-    decide_next(rt, &mut lanes, 2, "c", 300, 400);
-}
-
-// A member's claims of two years are decided in order, and each year begins with its own opening
-// balance.
-fn begin_anew(rt: &impl Abort, alloc: Global) {
-    let mut lanes = Lanes::new(alloc);
-    add_in(rt, alloc, &mut lanes, "a", ("M1", 2024));
-    add_in(rt, alloc, &mut lanes, "b", ("M1", 2025));
-    add_in(rt, alloc, &mut lanes, "c", ("M1", 2024));
-    decide_next(rt, &mut lanes, 0, "a", 100, 700);
-    decide_next(rt, &mut lanes, 1, "b", 100, 300);
-    decide_next(rt, &mut lanes, 2, "c", 700, 900);
-}
-
-// The claims of a family's members are decided in order. Those of another family do not wait for
-// them, even if its member has the same identifier.
-fn share_a_lane(rt: &impl Abort, alloc: Global) {
-    let mut lanes = Lanes::new(alloc);
-    add_of(rt, alloc, &mut lanes, "a", (Some("F1"), "M1", 2024));
-    add_of(rt, alloc, &mut lanes, "b", (Some("F1"), "M2", 2024));
-    add_of(rt, alloc, &mut lanes, "c", (Some("F2"), "M1", 2024));
-    take_two(rt, &mut lanes, 2, "c");
+    decide_next(rt, &mut lanes, 2, "c", 100, 300);
+    decide_next(rt, &mut lanes, 1, "b", 700, 900);
+    expects(rt, is_none_ready(&mut lanes), "no claim that is ready");
+    add(rt, alloc, &mut lanes, "d", "M1");
+    decide_next(rt, &mut lanes, 3, "d", 900, 950);
 }
 
 // A member begins with its own opening balance, and with the family's sums after the claims of the
@@ -214,19 +149,12 @@ fn go_on_as_a_family(rt: &impl Abort, alloc: Global) {
     add_of(rt, alloc, &mut lanes, "a", (Some("F1"), "M1", 2024));
     add_of(rt, alloc, &mut lanes, "b", (Some("F1"), "M2", 2024));
     decide_next(rt, &mut lanes, 0, "a", 100, 700);
-    take_next(rt, &mut lanes, 1, "b", (100, 700));
+    let picked = take(&mut lanes).expect(rt, "a claim");
+    check_claim(rt, picked, 1, "b", (100, 700));
 }
 
 #[test]
-fn families_claims_take_turns_though_memory_is_refused(rt: HostRuntime) {
-    share_a_lane(&rt, rt.alloc());
-    go_on_as_a_family(&rt, rt.alloc());
-}
-
-#[test]
-fn members_claims_take_turns_though_memory_is_refused(rt: HostRuntime) {
-    take_turns(&rt, rt.alloc());
+fn claims_take_turns_though_memory_is_refused(rt: HostRuntime) {
     go_on(&rt, rt.alloc());
-    begin_anew(&rt, rt.alloc());
-    prefetch_others(&rt, rt.alloc());
+    go_on_as_a_family(&rt, rt.alloc());
 }

@@ -4,10 +4,11 @@
 //! A test calls `drop` for each plan, input or answer that it owns. This is one call for the
 //! prover, whereas the end of a scope drops each of their parts.
 use crate::ending::{expects, fail};
-use dtable::{Answer, Env, Fault, Inputs, Plan, PlanFault, Valuer, read_plan};
+use dtable::{PlanFault, read_plan};
 use feel_tests::{Kind, TEXT_LIMIT_BYTES, Text, Value, read_value};
 use std::alloc::{AllocError, Global};
 use std::process::Abort;
+use tables::{Answer, Env, Fault, Inputs, Plan, Valuer};
 
 /// Reads the plan of a text.
 pub fn plan_of(rt: &impl Abort, alloc: Global, text: &[u8]) -> Plan {

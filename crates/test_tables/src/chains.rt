@@ -5,15 +5,12 @@ use crate::answers::{
     value_of,
 };
 use crate::ending::expects;
-use crate::plans::{chain_plan, sum_and_level_plan};
-use crate::tables::answer_text;
-use dtable::{
-    InputData, Inputs, Name, Plan, Sequence, all_names, rules_have_one_priority_order,
-    text_spells_at_most_one_plan,
-};
+use crate::plans::chain_plan;
+use dtable::text_spells_at_most_one_plan;
 use feel_tests::Kind;
 use std::alloc::Global;
 use std::process::Abort;
+use tables::{InputData, Inputs, Name, Plan, Sequence, all_names, rules_have_one_priority_order};
 use test_fixtures::health_plan;
 
 /// The indices of some names of the health plan.
@@ -118,26 +115,6 @@ fn what_a_plan_needs(rt: HostRuntime) {
     let plan = plan_of(&rt, rt.alloc(), health_plan().as_bytes());
     let needs = needs_what_it_reads(&plan) && !needs_others(&plan);
     expects(&rt, needs, "what it reads, and no more");
-    drop(plan);
-}
-
-/// Values of `x`, each with the expected answer of `z`.
-fn levels() -> &'static [(&'static str, &'static str)] {
-    &[
-        ("1", "\"LOW\"\n"),
-        ("7", "\"HIGH\"\n"),
-        ("-1", "no rule of table 1 matches"),
-        ("9", "no rule of table 2 matches"),
-    ]
-}
-
-#[test]
-fn a_table_reads_an_earlier_one(rt: HostRuntime) {
-    let plan = plan_of(&rt, rt.alloc(), sum_and_level_plan());
-    for (x, wanted) in levels() {
-        let text = answer_text(&rt, rt.alloc(), &plan, x, "z");
-        expects(&rt, is_text(text, wanted), x);
-    }
     drop(plan);
 }
 

@@ -1,24 +1,21 @@
-//! The check of tables by worked examples. The texts of the regions of each kind are tested by
-//! cases of the built program's `check`. A call that runs out of memory is repeated once.
+//! The gaps and overlaps of a compiled plan, which no command asks for. The checks of the regions of
+//! each kind are tested by cases of the built program's `check`. A call that runs out of memory is
+//! repeated once.
 ghost use Rattle.std.specs.Prelude.{◌≡◌};
 ghost use Rattle.cutplan.specs.Numbered.{IsTableNumber};
 
 mod alike;
-mod places;
 mod plans;
 mod wide_plans;
 
 use crate::answers::{is_text, plan_of};
 use crate::ending::{expects, fail};
 use cutplan::{CELL_LIMIT, CheckFault, CutPlan, Region, compile};
-use dtable::{Plan, Sequence};
 use feel_tests::{Literals, Value, append_joined};
-use plans::{
-    allowed_codes, at_five, codes, disjoint_plan, flag_and_code, no_region_after_ten_columns,
-    seventeen_regions, sixteen_regions,
-};
+use plans::{flag_and_code, no_region_after_ten_columns, seventeen_regions, sixteen_regions};
 use std::alloc::{AllocError, Global};
 use std::process::Abort;
+use tables::{Plan, Sequence};
 
 // Compiles the plan, even if one allocation is refused.
 fn cut_of<'p>(rt: &impl Abort, alloc: Global, plan: &'p Plan) -> CutPlan<'p>
@@ -171,38 +168,6 @@ fn check(
 ) {
     let plan = plan_of(rt, alloc, text);
     check_first(rt, alloc, &plan, gaps, overlap);
-}
-
-#[test]
-fn numbers_that_no_rule_covers_are_gaps(rt: HostRuntime) {
-    check(
-        &rt,
-        rt.alloc(),
-        disjoint_plan(),
-        Gaps::Shown("1;\n>5;\n"),
-        None,
-    );
-}
-
-#[test]
-fn rules_that_share_a_number_overlap(rt: HostRuntime) {
-    check(&rt, rt.alloc(), at_five(), Gaps::Shown(""), Some((1, 2)));
-}
-
-#[test]
-fn any_other_text_is_a_gap(rt: HostRuntime) {
-    check(
-        &rt,
-        rt.alloc(),
-        codes(),
-        Gaps::Shown("none of \"A\",\"B\";\n"),
-        None,
-    );
-}
-
-#[test]
-fn named_texts_leave_no_gap(rt: HostRuntime) {
-    check(&rt, rt.alloc(), allowed_codes(), Gaps::Shown(""), None);
 }
 
 // The earlier columns have too many tuples of regions to visit, so the walk over cells must not

@@ -11,10 +11,8 @@ mod cuts;
 #[cfg(test)]
 mod ending;
 #[cfg(test)]
+mod hit_policies;
+#[cfg(test)]
 mod plans;
 #[cfg(test)]
 mod reading;
-#[cfg(test)]
-mod tables;
-#[cfg(test)]
-mod violations;

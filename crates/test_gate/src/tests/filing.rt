@@ -7,12 +7,13 @@ ghost use Rattle.test_gate.specs.Words.{IsReader};
 
 use super::fail;
 use claim_gate::{BoxedClaim, GateState, Offer, Terms};
-use dtable::{Plan, read_plan};
+use dtable::read_plan;
 use intake_csv::{
     Row, Rows, given_row_is_the_first, no_records_give_no_rows, reader_begins_with_all_rows,
 };
 use std::alloc::{AllocError, Global};
 use std::process::Abort;
+use tables::Plan;
 
 fn read_once(alloc: Global, text: &[u8]) -> Result<Plan, AllocError> {
     let Ok(plan) = read_plan(alloc, text) else {

@@ -17,14 +17,7 @@ const NO_VERSION: &[u8] = b"fields = []\n";
 
 const NO_BILLED: &[u8] = b"claim,member,service,code\n";
 
-const CLAIM_TWICE: &[u8] = b"claim,member,service,billed,code,claim\n";
-
 const MEMBER_TWICE: &[u8] = b"member,met,oop,paid\nM1,50.00,10.00,5.00\nM1,50.00,10.00,5.00\n";
-
-/// The third field of the first record is negative.
-const BELOW_ZERO: &[u8] = b"member,met,oop,paid\nM1,50.00,-10.00,5.00\n";
-
-const EMPTY: &[u8] = b"";
 
 const NONE: &[&[u8]] = &[];
 
@@ -57,41 +50,6 @@ fn plans_and_numbers_of_workers_that_make_no_run(rt: HostRuntime) {
     refuses_plan(&rt, health_plan().as_bytes(), 0, "run fault 1\n");
     refuses_plan(&rt, health_plan().as_bytes(), 65, "run fault 1\n");
     refuses_plan(&rt, health_plan().as_bytes(), usize::MAX, "run fault 1\n");
-}
-
-// The tested file comes before one that lacks a column, whose error is not reported.
-fn refuses_file<R: Threads + Wait + Abort + Sync + AllocGlobal>(
-    rt: &R,
-    file: &'static [u8],
-    line: &str,
-) {
-    let files = [first_file(), file, NO_BILLED];
-    refuses(rt, run_of(&files), line);
-}
-
-#[test]
-fn files_that_make_no_run(rt: HostRuntime) {
-    refuses_file(&rt, EMPTY, "terms fault 3 file 2 cause 2\n");
-    refuses_file(&rt, NO_BILLED, NO_COLUMN);
-    refuses_file(&rt, CLAIM_TWICE, "terms fault 3 file 2 cause 4\n");
-    refuses(&rt, run_of(NONE), "terms fault 2\n");
-}
-
-fn refuses_balances<R: Threads + Wait + Abort + Sync + AllocGlobal>(
-    rt: &R,
-    balances: &[u8],
-    line: &str,
-) {
-    let plan = health_plan().as_bytes();
-    refuses(rt, input_of(plan, Some(balances), both_files(), 4), line);
-}
-
-#[test]
-fn balances_that_make_no_run(rt: HostRuntime) {
-    refuses_balances(&rt, MEMBER_TWICE, REPEATED);
-    refuses_balances(&rt, BELOW_ZERO, "terms fault 4 record 1 cause 7 column 3\n");
-    refuses_balances(&rt, EMPTY, "terms fault 4 cause 2\n");
-    refuses_balances(&rt, first_file(), "terms fault 4 cause 3\n");
 }
 
 // The balances and the number of workers are wrong too, but only the first error is reported.

@@ -6,13 +6,13 @@ use super::met::start_watched;
 use super::watched::nothing;
 use crate::testing::{expects_at, terms_of};
 use claim_gate::Terms;
-use dtable::Plan;
 use journal::Event;
 use std::alloc::Global;
 use std::fmt::Write;
 use std::process::Abort;
 use std::sync::Wait;
 use std::thread::Threads;
+use tables::Plan;
 
 /// The number of claims: one more than a worker takes in one turn, and twice as many as an intake
 /// offers in one.

@@ -7,11 +7,11 @@ use super::watched::{Watch, nothing};
 use crate::testing::{expects, expects_at, terms_of};
 use claim_gate::Terms;
 use crew::RunFault;
-use dtable::Plan;
 use std::alloc::Global;
 use std::process::Abort;
 use std::sync::Wait;
 use std::thread::Threads;
+use tables::Plan;
 use test_fixtures::first_file;
 
 fn one_of_each() -> Watch {

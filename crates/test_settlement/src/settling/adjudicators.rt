@@ -1,17 +1,11 @@
 //! Tests of adjudicators, which decide several claims.
 ghost use Rattle.std.specs.Prelude.{◌≡◌};
 
-use super::examples::{
-    Example, after_a_pended, before_capped, capped_example, first, naming, second,
-};
-use super::plans::{chained_plan, named_plan};
-use super::{acc, claim, is_reported, plan};
-use crate::ending::fail;
-use dtable::{InputClasses, Plan};
+use super::{Example, acc, capped_example, chained_plan, claim, is_reported, plan};
 use settlement::{Adjudicator, Outcome};
 use std::alloc::{AllocError, Global};
 use std::process::Abort;
-use test_fixtures::health_plan;
+use tables::{InputClasses, Plan};
 
 // Returns the outcome of one more claim by the same adjudicator.
 fn decided_next<V: InputClasses>(
@@ -24,8 +18,8 @@ fn decided_next<V: InputClasses>(
     requires { desk.old ≡ plan.now }
     ensures { desk.new ≡ desk.old }
 {
-    let (fields, billed, before, _) = example;
-    let claim = claim(rt, alloc, plan, *billed, fields);
+    let (code, billed, before, _) = example;
+    let claim = claim(rt, alloc, plan, *billed, code);
     assert!(rt; plan.roles().is_some());
     assert!(rt; claim.is_of(plan));
     let outcome = desk.decide(alloc, &claim, acc(rt, *before));
@@ -33,12 +27,16 @@ fn decided_next<V: InputClasses>(
     outcome
 }
 
-fn desk<'v>(rt: &impl Abort, alloc: Global, plan: &'v Plan) -> Adjudicator<'v, Plan>
-    ensures { result ≡ plan.now }
+pub fn desk<'v, V: InputClasses>(
+    rt: &impl Abort,
+    alloc: Global,
+    valuer: &'v V,
+) -> Adjudicator<'v, V>
+    ensures { result ≡ V.plan_of valuer.now }
 {
-    match Adjudicator::new(alloc, plan) {
+    match Adjudicator::new(alloc, valuer) {
         Ok(desk) => desk,
-        Err(_) => Adjudicator::new(alloc, plan).expect(rt, "memory for an adjudicator"),
+        Err(_) => Adjudicator::new(alloc, valuer).expect(rt, "memory for an adjudicator"),
     }
 }
 
@@ -61,35 +59,14 @@ pub fn settles_next<V: InputClasses>(
     is_reported(rt, alloc, outcome, example);
 }
 
-fn settles_both(rt: &impl Abort, alloc: Global, plan: &Plan, examples: &[Example]) {
-    let [first, second] = examples else {
-        fail(rt, "two claims")
-    };
-    let mut desk = desk(rt, alloc, plan);
-    settles_next(rt, alloc, &mut desk, plan, first);
-    settles_next(rt, alloc, &mut desk, plan, second);
-    drop(desk);
-}
-
-fn decides_both(rt: &impl Abort, alloc: Global, text: &str, examples: &[Example]) {
-    let plan = plan(rt, alloc, text);
-    settles_both(rt, alloc, &plan, examples);
-    drop(plan);
-}
-
-#[test]
-fn one_adjudicator_decides_claims_of_two_codes(rt: HostRuntime) {
-    decides_both(&rt, rt.alloc(), health_plan(), &[first(), second()]);
-}
-
-#[test]
-fn one_adjudicator_decides_after_a_pended_claim(rt: HostRuntime) {
-    decides_both(&rt, rt.alloc(), health_plan(), after_a_pended());
-}
-
-#[test]
-fn what_each_claim_and_each_member_has(rt: HostRuntime) {
-    decides_both(&rt, rt.alloc(), named_plan(), naming());
+// A claim under the chained tables, to be decided before the capped one.
+fn before_capped() -> Example {
+    (
+        "A",
+        9_000,
+        (0, 0, 0, 0, 0),
+        "Paid 9000 5000 1000 600 6000 3000, 5000 6000 3000 5000 6000",
+    )
 }
 
 // A decision that runs out of memory and is not repeated must not affect the decision of the next

@@ -1,16 +1,13 @@
 //! An example of a host with a valuer of its own, which evaluates a plan's tables one by one.
 //! `settlement::decide` asks it for the plan and for the value of the tables, and for nothing else.
 ghost use Rattle.std.specs.Prelude.{[]};
-ghost use Rattle.dtable.specs.Environment.{answers_of};
-ghost use Rattle.dtable.specs.HitPolicy.{Gives};
+ghost use Rattle.tables.specs.Environment.{answers_of};
+ghost use Rattle.tables.specs.HitPolicy.{Gives};
 
-use super::examples::Example;
-use super::{acc, claim, is_reported, plan};
-use dtable::{Answers, AnswersByTable, Env, Inputs, Plan, Table, Valuer, table_value};
+use super::{Example, plan, settles};
 use faults::Fault;
-use settlement::{Acc, Claim, Outcome, decide};
-use std::alloc::{AllocError, Global};
-use std::process::Abort;
+use std::alloc::Global;
+use tables::{Answers, AnswersByTable, Env, Inputs, Plan, Table, Valuer, table_value};
 use test_fixtures::health_plan;
 
 /// The valuer of a host that has the plan.
@@ -51,44 +48,19 @@ fn answers_of<'a>(
 // A claim under the health plan, of a member who has met the deductible and has paid 50.00. The fee
 // is 100.00, so that the billed 60.00 are allowed. The copay is 10.00, and the coinsurance is 20 %
 // of the other 50.00. Of these 20.00 the member pays 10.00, up to the maximum of 60.00, and the
-// plan pays 50.00.
+// plan pays 50.00. The member is its own family.
 fn example() -> Example {
     (
-        &["A"],
+        "A",
         6_000,
-        (5_000, 5_000, 0),
-        "Paid 6000 0 1000 1000 1000 5000 MET, 5000 6000 5000",
+        (5_000, 5_000, 0, 5_000, 5_000),
+        "Paid 6000 0 1000 1000 1000 5000 MET, 5000 6000 5000 5000 6000",
     )
-}
-
-// This call may be repeated.
-fn decided_by(
-    rt: &impl Abort,
-    alloc: Global,
-    host: &HostValuer,
-    claim: &Claim,
-    before: &Acc,
-) -> Result<Outcome, AllocError> {
-    assert!(rt; host.plan.roles().is_some());
-    assert!(rt; claim.is_of(host.plan));
-    decide(alloc, host, claim, *before)
-}
-
-fn settles_by(rt: &impl Abort, alloc: Global, host: &HostValuer, example: &Example) {
-    let (fields, billed, before, _) = example;
-    let claim = claim(rt, alloc, host.plan, *billed, fields);
-    let before = acc(rt, *before);
-    let outcome = match decided_by(rt, alloc, host, &claim, &before) {
-        Ok(outcome) => outcome,
-        Err(_) => decided_by(rt, alloc, host, &claim, &before).expect(rt, "memory for an outcome"),
-    };
-    is_reported(rt, alloc, outcome, example);
-    drop(claim);
 }
 
 #[test]
 fn a_host_values_its_plan_by_its_own(rt: HostRuntime) {
     let plan = plan(&rt, rt.alloc(), health_plan());
-    settles_by(&rt, rt.alloc(), &HostValuer { plan: &plan }, &example());
+    settles(&rt, rt.alloc(), &HostValuer { plan: &plan }, &example());
     drop(plan);
 }

@@ -1,90 +1,27 @@
-//! Tests of evaluators without input classes, and with one.
+//! Tests of an adjudicator's cache by an evaluator that counts. No clause asks that a determination
+//! is looked up: an adjudicator may also evaluate the tables for each claim.
 ghost use Rattle.std.specs.Prelude.{◌≡◌, []};
 
-use super::adjudicators::settles_next;
-use super::examples::{Example, written_examples};
-use super::plan;
-use super::plans::flat_plan;
-use crate::ending::{expects, fail};
-use dtable::{Env, InputClasses, Inputs, Plan, Valuer};
+use super::adjudicators::{desk, settles_next};
+use super::{Example, capped_example, chained_plan, plan};
+use crate::ending::expects;
 use faults::Fault;
-use settlement::Adjudicator;
 use std::alloc::Global;
 use std::cell::Cell;
 use std::process::Abort;
+use tables::{Env, InputClasses, Inputs, Plan, Valuer};
 
-/// The number of claims that are decided.
-const CLAIMS: u32 = 1_200;
-
-/// An evaluator that knows no input class, and counts the lookups of one.
+/// An evaluator that counts the lookups of an input class, and its evaluations. Its inputs are all
+/// in one class if its plan has no tables, and otherwise it knows no class.
 #[derive(Drop)]
-struct Unclassed<'p> {
+struct Counted<'p> {
     plan: &'p Plan,
     asked: Cell<u32>,
-}
-
-impl<'p> Valuer for Unclassed<'p> {
-    ghost plan_of = { λ unclassed. unclassed.plan.now };
-
-    fn plan(&self) -> &Plan {
-        self.plan
-    }
-
-    fn value<'a>(&'a self, alloc: Global, inputs: &Inputs) -> Result<Env<'a>, Fault> {
-        self.plan.value(alloc, inputs)
-    }
-}
-
-impl<'p> InputClasses for Unclassed<'p> {
-    ghost in_class = { λ unclassed given input_class. ⊥ };
-
-    fn input_class(&self, _inputs: &Inputs) -> Option<u64> {
-        self.asked.set(self.asked.get().saturating_add(1));
-        None
-    }
-}
-
-// Decides the claim repeatedly by one adjudicator.
-fn settles_often(rt: &impl Abort, alloc: Global, unclassed: &Unclassed, example: &Example) {
-    let Ok(mut desk) = Adjudicator::new(alloc, unclassed) else {
-        fail(rt, "memory for an adjudicator")
-    };
-    for _ in 0..CLAIMS {
-        settles_next(rt, alloc, &mut desk, unclassed.plan, example);
-    }
-    drop(desk);
-}
-
-#[test]
-fn an_adjudicator_gives_up_classes_that_have_no_number(rt: HostRuntime) {
-    let plan = plan(&rt, rt.alloc(), flat_plan());
-    let unclassed = Unclassed {
-        plan: &plan,
-        asked: Cell::new(0),
-    };
-    let [example, ..] = written_examples() else {
-        fail(&rt, "a claim")
-    };
-    settles_often(&rt, rt.alloc(), &unclassed, example);
-    expects(
-        &rt,
-        unclassed.asked.get() == 1_024,
-        "1024 lookups of input classes",
-    );
-    drop(unclassed);
-    drop(plan);
-}
-
-/// An evaluator whose inputs are all in one class if its plan has no tables, and which counts its
-/// evaluations.
-#[derive(Drop)]
-struct Classed<'p> {
-    plan: &'p Plan,
     valued: Cell<u32>,
 }
 
-impl<'p> Valuer for Classed<'p> {
-    ghost plan_of = { λ classed. classed.plan.now };
+impl<'p> Valuer for Counted<'p> {
+    ghost plan_of = { λ counted. counted.plan.now };
 
     fn plan(&self) -> &Plan {
         self.plan
@@ -96,10 +33,11 @@ impl<'p> Valuer for Classed<'p> {
     }
 }
 
-impl<'p> InputClasses for Classed<'p> {
-    ghost in_class = { λ classed given input_class. classed.plan.now.tables ≡ [] };
+impl<'p> InputClasses for Counted<'p> {
+    ghost in_class = { λ counted given input_class. counted.plan.now.tables ≡ [] };
 
     fn input_class(&self, _inputs: &Inputs) -> Option<u64> {
+        self.asked.set(self.asked.get().saturating_add(1));
         if self.plan.tables().is_empty() {
             Some(0)
         } else {
@@ -108,30 +46,61 @@ impl<'p> InputClasses for Classed<'p> {
     }
 }
 
-// Decides the claim twice by one adjudicator.
-fn settles_twice(rt: &impl Abort, alloc: Global, classed: &Classed, example: &Example) {
-    let Ok(mut desk) = Adjudicator::new(alloc, classed) else {
-        fail(rt, "memory for an adjudicator")
-    };
-    settles_next(rt, alloc, &mut desk, classed.plan, example);
-    settles_next(rt, alloc, &mut desk, classed.plan, example);
+// Decides the claim repeatedly by one adjudicator.
+fn settles_often(rt: &impl Abort, alloc: Global, counted: &Counted, example: &Example, times: u32) {
+    let mut desk = desk(rt, alloc, counted);
+    for _ in 0..times {
+        settles_next(rt, alloc, &mut desk, counted.plan, example);
+    }
     drop(desk);
 }
 
-/// No clause asks that a determination is looked up: an adjudicator may also evaluate the tables
-/// for each claim.
-#[test]
-fn claims_of_one_class_are_evaluated_once(rt: HostRuntime) {
-    let plan = plan(&rt, rt.alloc(), flat_plan());
-    let classed = Classed {
+// Returns the number of lookups and the number of evaluations for a claim that is decided several
+// times.
+fn counts(rt: &impl Abort, alloc: Global, text: &str, example: &Example, times: u32) -> (u32, u32) {
+    let plan = plan(rt, alloc, text);
+    let counted = Counted {
         plan: &plan,
+        asked: Cell::new(0),
         valued: Cell::new(0),
     };
-    let [example, ..] = written_examples() else {
-        fail(&rt, "a claim")
-    };
-    settles_twice(&rt, rt.alloc(), &classed, example);
-    expects(&rt, classed.valued.get() == 1, "one evaluation");
-    drop(classed);
+    settles_often(rt, alloc, &counted, example, times);
+    let counts = (counted.asked.get(), counted.valued.get());
+    drop(counted);
     drop(plan);
+    counts
+}
+
+#[test]
+fn an_adjudicator_gives_up_classes_that_have_no_number(rt: HostRuntime) {
+    let (asked, _) = counts(&rt, rt.alloc(), chained_plan(), &capped_example(), 1_200);
+    expects(&rt, asked == 1_024, "1024 lookups of input classes");
+}
+
+// A plan without tables, whose roles are literals.
+fn flat_plan() -> &'static str {
+    r#"
+version = 1
+fields = [{name = "code", kind = "text"}]
+
+[roles]
+cover = "true"
+fee = "5"
+deductible = "100"
+copay = "0"
+rate = "0"
+oop_max = "1000"
+"#
+}
+
+#[test]
+fn claims_of_one_class_are_evaluated_once(rt: HostRuntime) {
+    let example = (
+        "A",
+        2,
+        (9_999, 0, 0, 9_999, 0),
+        "Paid 2 1 0 0 1 1, 10000 1 1 10000 1",
+    );
+    let (_, valued) = counts(&rt, rt.alloc(), flat_plan(), &example, 2);
+    expects(&rt, valued == 1, "one evaluation");
 }

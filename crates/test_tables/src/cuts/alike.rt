@@ -6,16 +6,16 @@ ghost use Rattle.cutplan.specs.Numbered.{IsTableNumber};
 
 use super::cut_of;
 use super::plans::{
-    allowed_codes, at_five, chain, codes, days, disjoint_plan, flag_and_code, ranked_plan,
-    sixteen_regions, stretches, three_rules,
+    allowed_codes, chain, codes, days, disjoint_plan, flag_and_code, ranked_plan, stretches,
+    three_rules,
 };
 use super::wide_plans::{wide_codes, wide_days, wide_numbers};
 use crate::answers::{give, inputs_of, is_text, plan_of, write_line};
 use crate::ending::expects;
 use cutplan::{CutPlan, RuleMask};
-use dtable::{AnswersByTable, Env, InputClasses, Inputs, Plan, Valuer};
 use std::alloc::{AllocError, Global};
 use std::process::Abort;
+use tables::{AnswersByTable, Env, InputClasses, Inputs, Plan, Valuer};
 use test_fixtures::health_plan;
 
 /// The index of the first field among the names.
@@ -181,21 +181,6 @@ fn around_apart() -> Literals {
     ]
 }
 
-fn around_five() -> Literals {
-    &["4.9999", "5", "5.0001"]
-}
-
-fn around_three_rules() -> Literals {
-    &["1.9999", "2", "2.0001", "2.9999", "3", "3.0001"]
-}
-
-#[test]
-fn numbers_are_valued_alike(rt: HostRuntime) {
-    check(&rt, rt.alloc(), disjoint_plan(), around_apart(), none());
-    check(&rt, rt.alloc(), at_five(), around_five(), none());
-    check(&rt, rt.alloc(), three_rules(), around_three_rules(), none());
-}
-
 fn check_answer(rt: &impl Abort, alloc: Global, cut: &CutPlan, literal: &str, answer: &str) {
     let answers = answer_text(rt, alloc, cut, &[(FIRST, literal)]);
     expects(rt, is_text(answers, answer), answer);
@@ -208,23 +193,6 @@ fn two_of_three_rules_answer_by_masks(rt: HostRuntime) {
         rt.alloc(),
         three_rules(),
         Tried::Answer("2", "list 1 1\n"),
-    );
-}
-
-fn around_sixteen_regions() -> Literals {
-    &[
-        "0.9999", "1", "1.0001", "1.0002", "2.9999", "3", "3.0001", "7.9999", "8", "8.0001",
-    ]
-}
-
-#[test]
-fn four_columns_are_valued_alike(rt: HostRuntime) {
-    check(
-        &rt,
-        rt.alloc(),
-        sixteen_regions(),
-        around_sixteen_regions(),
-        none(),
     );
 }
 

@@ -16,21 +16,6 @@ rules = [
 "#
 }
 
-/// Two ranges of numbers that both contain 5.
-pub fn at_five() -> &'static [u8] {
-    br#"version = 1
-fields = [{name = "x", kind = "number"}]
-[[tables]]
-hit = "R"
-inputs = [{name = "x"}]
-outputs = [{name = "y", kind = "number"}]
-rules = [
-  {when = ['<=5'], then = ['1']},
-  {when = ['>=5'], then = ['1']},
-]
-"#
-}
-
 /// Two texts.
 pub fn codes() -> &'static [u8] {
     br#"version = 1

@@ -1,6 +1,6 @@
 use Rattle.std.proofs.Common.{sym, subst, rules}
 use Rattle.std.specs.Option.{IsSome}
-use Rattle.dtable.specs.Plan.{PlanParts}
+use Rattle.tables.specs.Plan.{PlanParts}
 use Rattle.settlement.specs.Claim.{IsClaimOf}
 use Rattle.test_settlement.proofs.settling.adjudicators.decided_next.Goals as goal
 

@@ -1,5 +1,5 @@
 use Rattle.std.proofs.Common.{◌≡◌, [], drop}
-use Rattle.dtable.specs.Environment.{answers_of}
+use Rattle.tables.specs.Environment.{answers_of}
 use Rattle.test_settlement.proofs.settling.host_valuer.answers_of.Given as goal
 
 abbrev pub invariant-loop-table : goal.invariant-loop-table
