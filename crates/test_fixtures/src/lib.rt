@@ -156,20 +156,6 @@ pub fn remittance() -> &'static str {
     REMITTANCE
 }
 
-const FAMILY_REMITTANCE: &str =
-    "provider,record,claim,family,member,year,status,reason,allowed,ded,copay,coins,share,paid,remarks\r
-1,1,e1,F1,M1,2024,paid,,100.00,50.00,10.00,8.00,60.00,40.00,OVER\r
-1,2,e2,F1,M2,2024,paid,,100.00,30.00,10.00,12.00,40.00,60.00,\r
-1,3,e3,F1,M3,2024,paid,,100.00,0.00,10.00,18.00,0.00,100.00,\r
-1,4,e4,F2,M1,2024,paid,,30.00,30.00,0.00,0.00,30.00,0.00,\r
-total,4,,,,,,,330.00,110.00,30.00,38.00,130.00,200.00,\r
-";
-
-/// The remittance of the family file without opening balances.
-pub fn family_remittance() -> &'static str {
-    FAMILY_REMITTANCE
-}
-
 const LATE: &str =
     "provider,record,claim,member,status,reason,allowed,ded,copay,coins,share,paid,remarks\r
 1,1,c1,M1,late,,,,,,,,\r
@@ -185,14 +171,4 @@ total,0,,,,,0.00,0.00,0.00,0.00,0.00,0.00,\r
 /// The remittance of the two files if no claim is accepted.
 pub fn late_remittance() -> &'static str {
     LATE
-}
-
-const EMPTY: &str =
-    "provider,record,claim,member,status,reason,allowed,ded,copay,coins,share,paid,remarks\r
-total,0,,,,,0.00,0.00,0.00,0.00,0.00,0.00,\r
-";
-
-/// The remittance of a file without records.
-pub fn empty_remittance() -> &'static str {
-    EMPTY
 }
