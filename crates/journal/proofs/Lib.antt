@@ -10,5 +10,4 @@ pub mod GateMoves
 pub mod Worked
 pub mod Turns
 pub mod Families
-pub mod Filing
 pub mod InOrder

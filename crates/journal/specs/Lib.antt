@@ -8,5 +8,4 @@ pub mod Laws
 pub mod Turns
 pub mod Families
 pub mod TestWords
-pub mod Order
 pub mod InOrder

@@ -15,7 +15,6 @@ ghost use Rattle.journal.specs.Laws.{
   StopGoes,
   JobsAreStable,
 };
-ghost use Rattle.journal.specs.Order.{StaysInOrder};
 ghost use Rattle.journal.specs.InOrder.{DueClaimStaysInOrder, OrderIsOne};
 ghost use Rattle.journal.specs.Turns.{TakeTurns};
 ghost use Rattle.journal.specs.Families.{FamiliesAreTheirMembers};
@@ -81,12 +80,6 @@ pub fn members_take_turns()
 /// the deductible, and of the amounts paid out of pocket.
 pub fn families_are_their_members()
     ensures { FamiliesAreTheirMembers }
-{}
-
-/// If acceptance has followed the order of the files, it still does after the next claim of a
-/// provider is accepted, provided that all earlier files have ended.
-pub fn acceptance_stays_in_order()
-    ensures { StaysInOrder }
 {}
 
 /// An order of acceptance leaves no choice: of two lists of its first claims the shorter one begins

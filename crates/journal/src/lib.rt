@@ -16,9 +16,9 @@ mod order;
 pub use boxed_outcome::BoxedOutcome;
 pub use event::Event;
 pub use laws::{
-    acceptance_stays_in_order, due_claim_stays_in_order, empty_journal_is_lawful,
-    families_are_their_members, finished_is_final, finished_takes_all, fitting_event_keeps_lawful,
-    gate_keeps_lawful, histories_are_linear, jobs_are_stable, leads_in_order, members_take_turns,
+    due_claim_stays_in_order, empty_journal_is_lawful, families_are_their_members,
+    finished_is_final, finished_takes_all, fitting_event_keeps_lawful, gate_keeps_lawful,
+    histories_are_linear, jobs_are_stable, leads_in_order, members_take_turns,
     order_leaves_no_choice,
 };
 pub use order::Order;
