@@ -1,5 +1,5 @@
 -- After each call the indexes of a gate agree with its journal, and the call is one that `journal` defines.
-use Rattle.std.proofs.Common.{◌≡◌, ℕ, zero, suc, ◌<◌, ◌≤◌, ◌+◌, Bool, true, false, not, ◌&&◌, ◌||◌, cond, List, [], ◌∷◌, ◌++◌, take, length, get_or, replicate, fold, Option, Some, None, option_map, refl, sym, ap, ◌∙◌, subst, arith, add-zero, mul-zero}
+use Rattle.std.proofs.Common.{◌≡◌, ◌≢◌, ℕ, zero, suc, ◌<◌, ◌≤◌, ◌+◌, Bool, true, false, not, ◌&&◌, ◌||◌, cond, List, [], ◌∷◌, ◌++◌, take, length, get_or, replicate, fold, Option, Some, None, option_map, refl, sym, ap, ◌∙◌, subst, arith, add-zero, mul-zero}
 use Rattle.std.specs.List.{count_by, list_all}
 use Rattle.std.specs.Option.{option_map_or}
 use Rattle.std.proofs.lemmas.Bool.{both_ways, cond_both}
@@ -23,13 +23,15 @@ use Rattle.journal.specs.Terms.{Terms, claims_of}
 use Rattle.journal.specs.Settled.{outcome_of, accumulated}
 use Rattle.std.proofs.Common.{append-nil}
 use Rattle.std.proofs.lemmas.List.Concat.{flat_map-append}
-use Rattle.journal.specs.Order.{IsInOrder, StaysInOrder, in_file_order}
-use Rattle.journal.specs.Events.{accept_in, accepts, accepted_count, has_end, places, closed, is_close, has_take, has_decision, claim_filed, claims, claim_at, noted, before, reached, due, IsJob}
+use Rattle.journal.specs.InOrder.{AreFirstInOrder, DueClaimStaysInOrder, IsDue}
+use Rattle.journal.specs.Events.{accept_in, accepts, accepted_count, places, closed, is_close, has_take, has_decision, claim_filed, claims, claim_at, noted, before, reached, due, IsJob}
 use Rattle.journal.specs.Lawful.{Lawful, closing}
 use Rattle.journal.specs.Gate.{GateAt, OfferReply, EndReply, TakeReply, FinishReply, Offers, Ends, Takes, Finishes, is_any_decision}
 use Rattle.journal.specs.Laws.{EmptyJournalIsLawful, OfferGoes, EndGoes, TakeGoes, FinishGoes}
 use Rattle.journal.specs.declared.event.Event.{Event}
 use Rattle.journal.specs.declared.event.Event.TheVariants.{Accept, End, Close, Take, Decide}
+use Rattle.journal.specs.declared.order.Order.{Order}
+use Rattle.journal.specs.declared.order.Order.TheVariants.{Any}
 use Rattle.claim_gate.specs.declared.intakes.Intake.{Intake}
 use Rattle.claim_gate.specs.Intakes.{no_intake, none_yet, intake_of, with_accept, with_end}
 use Rattle.claim_gate.specs.GateIndex.{is_begun, AreMarked, ArePlacesOf, IsIntakeOf, AreIntakesOf, IsKept, is_due}
@@ -80,20 +82,23 @@ decisions_where : (b : Bool) (J : List Event) → count_by is_any_decision (clos
 decisions_where true J = decisions_stay J Close refl
 decisions_where false J = refl
 
--- an event that accepts no claim keeps the order of the files
-order_same : (T : Terms) (J : List Event) (event : Event) → accept_in event ≡ [] → IsInOrder T J → IsInOrder T (J ++ event ∷ [])
-order_same T J event none ordered =
+-- the claims that a journal accepts are the first ones in the order
+abbrev IsInOrder : Order → Terms → List Event → Type 0
+IsInOrder order T J = AreFirstInOrder order T.files (accepts J)
+
+-- an event that accepts no claim keeps the order
+order_same : (order : Order) (T : Terms) (J : List Event) (event : Event) → accept_in event ≡ [] → IsInOrder order T J → IsInOrder order T (J ++ event ∷ [])
+order_same order T J event none ordered =
     let same : accepts (J ++ event ∷ []) ≡ accepts J =
     flat_map-append accept_in J (event ∷ []) ∙ ap (λ fs. accepts J ++ (fs ++ [])) none ∙ append-nil (accepts J) in
-    subst (λ order. order ≡ take (length order) (in_file_order 1 T.files)) (sym same) ordered
+    subst (AreFirstInOrder order T.files) (sym same) ordered
 
-order_where : (T : Terms) (b : Bool) (J : List Event) → IsInOrder T J → IsInOrder T (closed_where b J)
-order_where T true J ordered = order_same T J Close refl ordered
-order_where T false J ordered = ordered
+order_where : (order : Order) (T : Terms) (b : Bool) (J : List Event) → IsInOrder order T J → IsInOrder order T (closed_where b J)
+order_where order T true J ordered = order_same order T J Close refl ordered
+order_where order T false J ordered = ordered
 
--- if an open gate accepts no more claims of a provider, the provider has ended
-ended_of : (stopped : Bool) (J : List Event) (q : ℕ) → stopped ≡ false → closed J ≡ false → ((stopped || closed J) || has_end J q) ≡ true → has_end J q ≡ true
-ended_of stopped J q runs open_yet past = sym (ap (λ b. (b || closed J) || has_end J q) runs ∙ ap (λ b. b || has_end J q) open_yet) ∙ past
+none_in_order : (order : Order) (T : Terms) → IsInOrder order T []
+none_in_order order T n filed at = absurd (none-some filed at)
 
 -- a new gate has at least one provider, and none has ended
 none_ended : (n : ℕ) → 1 ≤ n → list_all (λ x. x.ended) (replicate n none_yet) ≡ false
@@ -140,17 +145,28 @@ module _ (terms : TermsParts) (starts : EmptyJournalIsLawful) (b : Bool) (files 
             subst (Lawful T)
             (closing_is T [] b (due_is terms T [] (replicate (length terms.files) none_yet) is (tied_start terms).intakes_are ∙ sym when) refl)
             (starts T);
-        ordered = λ by_files T is. order_where T b [] refl;
+        ordered = λ asks T is. order_where terms.order T b [] (none_in_order terms.order T);
       }
+
+work_by : (phase : Option Phase) → option_map_or is_begun phase false ≡ true → option_map_or is_decided phase false ≡ false → phase ≡ Some InWork
+work_by None b d = absurd (both_ways false refl b)
+work_by (Some (Waiting c)) b d = absurd (both_ways false refl b)
+work_by (Some (Ready c)) b d = absurd (both_ways false refl b)
+work_by (Some InWork) b d = refl
+work_by (Some (Decided l)) b d = absurd (both_ways true d refl)
+
+-- the entry of a claim that was taken and is not decided is in work
+pub is_in_work : (J : List Event) (lanes : List Place) → AreMarked J lanes → (k : ℕ) → has_decision J k ≡ false → has_take J k ≡ true → phase_at lanes k ≡ Some InWork
+is_in_work J lanes marked k once taken = work_by (phase_at lanes k) (sym (marked.taken_are k) ∙ taken) (sym (marked.decided_are k) ∙ once)
 
 -- the gate accepts a claim
 module _ (terms : TermsParts) (J : List Event) (stopped : Bool) (lanes : List Place) (intakes : List Intake) (is_closed : Bool) (decisions : ℕ)
     (kept : IsKept terms J lanes intakes is_closed decisions) where
-  module _ (goes : OfferGoes) (stays : StaysInOrder) (provider place : ℕ) (claim : Claim) (year : ℕ) (b : Bool)
+  module _ (goes : OfferGoes) (stays : DueClaimStaysInOrder) (provider place : ℕ) (claim : Claim) (year : ℕ) (b : Bool)
       (runs : stopped ≡ false) (open_yet : closed J ≡ false)
       (filed : ForTerms terms (λ T. claim_filed T (record { provider = provider; place = place }) ≡ Some claim))
       (in_turn : ForTerms terms (λ T. place ≡ length (places J provider)))
-      (in_order : terms.in_order ≡ true → (q : ℕ) → 1 ≤ q → q < provider → ((stopped || closed J) || has_end J q) ≡ true)
+      (is_next : terms.order ≢ Any → ForTerms terms (λ T. IsDue terms.order T J (record { provider = provider; place = place })))
       (dated : year ≡ account_year terms.plan claim)
       (when : b ≡ is_due terms (length (lanes ++ next_place lanes claim year ∷ [])) (with_accept intakes provider)) where
     abbrev accepted_in : List Event
@@ -205,10 +221,9 @@ module _ (terms : TermsParts) (J : List Event) (stopped : Bool) (lanes : List Pl
           lawful = λ T is.
               (goes (gate T J stopped) (gate T (closed_where b accepted_in) stopped) provider place (OfferReply.Accepted (length lanes))
               (kept.lawful T is) (slice_get_within (claims_of T provider) place claim (filed T is)) (offer_accepted T is)).lawful;
-          ordered = λ by_files T is.
-              order_where T b accepted_in
-              (stays T J provider place (kept.lawful T is) (kept.ordered by_files T is)
-              (λ q least before. ended_of stopped J q runs open_yet (in_order by_files q least before))
+          ordered = λ asks T is.
+              order_where terms.order T b accepted_in
+              (stays terms.order T J (record { provider = provider; place = place }) asks (kept.ordered asks T is) (is_next asks T is)
               (record { open_yet = open_yet; place_is = in_turn T is; there = slice_get_within (claims_of T provider) place claim (filed T is) }));
         }
 
@@ -255,7 +270,7 @@ module _ (terms : TermsParts) (J : List Event) (stopped : Bool) (lanes : List Pl
           lawful = λ T is.
               (goes (gate T J stopped) (gate T (closed_where b ended_in) stopped) provider EndReply.Ended (kept.lawful T is) (known T is).known
               (subst (λ n. Ends (gate T J stopped) provider n EndReply.Ended (gate T (closed_where b ended_in) stopped)) (known T is).count_is (end_ended T is))).lawful;
-          ordered = λ by_files T is. order_where T b ended_in (order_same T J (End provider) refl (kept.ordered by_files T is));
+          ordered = λ asks T is. order_where terms.order T b ended_in (order_same terms.order T J (End provider) refl (kept.ordered asks T is));
         }
 
   -- the entries agree with the journal after an event that changes no claim
@@ -294,7 +309,7 @@ module _ (terms : TermsParts) (J : List Event) (stopped : Bool) (lanes : List Pl
       places_are = λ T is. places_take T (J ++ Take k ∷ []) lanes k (places_still T (Take k) (claims_stay T J (Take k) refl) (kept.places_are T is));
       lawful = λ T is.
           (goes (gate T J stopped) (gate T (J ++ Take k ∷ []) stopped) (TakeReply.Work k picked.claim acc) (kept.lawful T is) (take_work T is)).lawful;
-      ordered = λ by_files T is. order_same T J (Take k) refl (kept.ordered by_files T is);
+      ordered = λ asks T is. order_same terms.order T J (Take k) refl (kept.ordered asks T is);
     }
 
   pub take_over : (T : Terms) → IsTermsOf terms T → stopped ≡ false → IsOver J → Takes (gate T J stopped) TakeReply.Over (gate T J stopped)
@@ -309,16 +324,8 @@ module _ (terms : TermsParts) (J : List Event) (stopped : Bool) (lanes : List Pl
       (once : has_decision J k ≡ false) (in_work : has_take J k ≡ true)
       (job : ForTerms terms (λ T. IsJob T J k claim acc))
       (settled : outcome ≡ outcome_of terms.plan claim acc) (leaves : left ≡ accumulated true true acc outcome) where
-    work_by : (phase : Option Phase) → option_map_or is_begun phase false ≡ true → option_map_or is_decided phase false ≡ false → phase ≡ Some InWork
-    work_by None b d = absurd (both_ways false refl b)
-    work_by (Some (Waiting c)) b d = absurd (both_ways false refl b)
-    work_by (Some (Ready c)) b d = absurd (both_ways false refl b)
-    work_by (Some InWork) b d = refl
-    work_by (Some (Decided l)) b d = absurd (both_ways true d refl)
-
-    -- the entry of the claim is in work
-    pub is_in_work : phase_at lanes k ≡ Some InWork
-    is_in_work = work_by (phase_at lanes k) (sym (kept.marked.taken_are k) ∙ in_work) (sym (kept.marked.decided_are k) ∙ once)
+    works : phase_at lanes k ≡ Some InWork
+    works = is_in_work J lanes kept.marked k once in_work
 
     pub finish_recorded : (T : Terms) → Finishes (gate T J stopped) k outcome FinishReply.Recorded (gate T (J ++ Decide k outcome ∷ []) stopped)
     finish_recorded T = (runs, once, refl)
@@ -330,7 +337,7 @@ module _ (terms : TermsParts) (J : List Event) (stopped : Bool) (lanes : List Pl
     decided_places T is =
         let same : claims T decided_in ≡ claims T J = claims_stay T J (Decide k outcome) refl in
         let many : length lanes ≡ accepted_count decided_in = kept.marked.as_many ∙ sym (accepted_more J (Decide k outcome) ∙ add-zero (accepted_count J)) in
-        let p = has_place lanes k InWork is_in_work in
+        let p = has_place lanes k InWork works in
         let here : k < length lanes = slice_get_within lanes k p.place p.there in
         let located : claim_at T decided_in k ≡ Some claim = ap (λ cs. get_or cs k None) same ∙ (job T is).located in
         let account = account_of T.plan claim in
@@ -348,10 +355,10 @@ module _ (terms : TermsParts) (J : List Event) (stopped : Bool) (lanes : List Pl
       closed_is = kept.closed_is ∙ sym (any_stays is_close J (Decide k outcome) refl);
       decisions_are = ap (λ n. n + 1) kept.decisions_are ∙ sym (sum_by_push (λ e. cond (is_any_decision e) 1 0) J (Decide k outcome));
       intakes_are = intakes_stay J (length terms.files) intakes (Decide k outcome) kept.intakes_are (λ p. refl) (λ p. refl) refl;
-      marked = marked_decision J lanes k outcome left kept.marked is_in_work;
+      marked = marked_decision J lanes k outcome left kept.marked works;
       places_are = decided_places;
       lawful = λ T is.
           (goes (gate T J stopped) (gate T decided_in stopped) k claim acc outcome FinishReply.Recorded (kept.lawful T is)
           (record { in_work = in_work; job = job T is; settled = settled ∙ ap (λ p. outcome_of p claim acc) (sym is.plan) }) (finish_recorded T)).lawful;
-      ordered = λ by_files T is. order_same T J (Decide k outcome) refl (kept.ordered by_files T is);
+      ordered = λ asks T is. order_same terms.order T J (Decide k outcome) refl (kept.ordered asks T is);
     }

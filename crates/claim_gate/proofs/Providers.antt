@@ -1,8 +1,8 @@
 -- After each event the progress of the files agrees with the journal, and it implies whether the close is due.
-use Rattle.std.proofs.Common.{◌≡◌, ℕ, zero, suc, ◌<◌, ◌≤◌, ◌+◌, ◌==◌, Bool, true, false, ◌&&◌, ◌||◌, cond, List, [], ◌∷◌, ◌++◌, take, length, get_or, set, ◌⊎◌, refl, sym, ap, ◌∙◌, subst, inl, inr, arith, add-zero, add-one, eq-eqb, ne_eqb, length-set}
+use Rattle.std.proofs.Common.{◌≡◌, ℕ, zero, suc, ◌<◌, ◌≤◌, ◌+◌, ◌-◌, ◌==◌, Bool, true, false, ◌&&◌, ◌||◌, cond, List, [], ◌∷◌, ◌++◌, take, length, get_or, set, slice_set, ◌⊎◌, refl, sym, ap, ◌∙◌, subst, inl, inr, arith, add-zero, add-one, eq-eqb, ne_eqb, length-set}
 use Rattle.std.specs.List.{count_by, list_all, AllZip}
 use Rattle.std.proofs.lemmas.Bool.{both_ways, cases_eq, cases_lt, cond-true, cond-false}
-use Rattle.std.proofs.lemmas.List.{length_push, get_or_past, get_or-set_same, get_or-set_other, take_all}
+use Rattle.std.proofs.lemmas.List.{length_push, get_or_default, get_or_past, get_or-set_same, get_or-set_other, take_all}
 use Rattle.std.proofs.lemmas.List.Folds.{list_all_more}
 use Rattle.std.proofs.lemmas.List.Sums.{sum_by-cons, sum_by_push, sum_by-set}
 use Rattle.claim_gate.specs.Terms.{TermsParts, AreClaimsOf, IsTermsOf}
@@ -64,6 +64,51 @@ longer_places J p place =
     ap length (places_more J (Accept p place) p ∙ ap (λ w. places J p ++ w) (cond-true (p == p) (place ∷ []) [] (eq-eqb p p refl)))
     ∙ length_push (places J p) place
 
+-- a provider that has not ended is one of the run
+open_within : (intakes : List Intake) (q : ℕ) → (get_or intakes q no_intake).ended ≡ false → q < length intakes
+open_within intakes q yet =
+    elim (cases_lt q (length intakes)) [
+      | inl within ↦ within
+      | inr past ↦ absurd (both_ways (get_or intakes q no_intake).ended yet (ap (λ (x : Intake). x.ended) (get_or_past intakes q no_intake past)))
+    ]
+
+-- a provider is not 0, and its progress has a place in the list
+pub record HasPlace (intakes : List Intake) (provider : ℕ) : Type 0 where
+  pub least : 1 ≤ provider
+  pub within : provider - 1 < length intakes
+
+pub open_has_place : (intakes : List Intake) (provider : ℕ) → (intake_of intakes provider).ended ≡ false → HasPlace intakes provider
+open_has_place intakes zero yet = absurd (both_ways true yet refl)
+open_has_place intakes (suc q) yet =
+    let within = open_within intakes q yet in
+    record { least = omega arith; within = omega (arith, within) }
+
+-- the end of a provider that has not ended adds one to the number of ended providers
+one_more_end : (intakes : List Intake) (provider : ℕ) → (intake_of intakes provider).ended ≡ false → ends_in (with_end intakes provider) ≡ ends_in intakes + 1
+one_more_end intakes zero yet = absurd (both_ways true yet refl)
+one_more_end intakes (suc q) yet =
+    let within = open_within intakes q yet in
+    let more : ends_in (set intakes q (at_end (get_or intakes q no_intake))) + cond (get_or intakes q no_intake).ended 1 0 ≡ ends_in intakes + 1 =
+    sum_by-set (λ x. cond x.ended 1 0) intakes q (at_end (get_or intakes q no_intake)) no_intake within in
+    let none : cond (get_or intakes q no_intake).ended 1 0 ≡ 0 = cond-false {A = ℕ} (get_or intakes q no_intake).ended 1 0 yet in
+    sym (ap (λ n. ends_in (with_end intakes (suc q)) + n) none ∙ add-zero (ends_in (with_end intakes (suc q)))) ∙ more
+
+-- the end of a provider, written in place of the progress that was read there
+pub written_end : (intakes : List Intake) (provider : ℕ) (read : Intake) → (intake_of intakes provider).ended ≡ false → read ≡ get_or intakes (provider - 1) read
+    → slice_set intakes (provider - 1) (at_end read) ≡ with_end intakes provider
+written_end intakes zero read yet there = absurd (both_ways true yet refl)
+written_end intakes (suc q) read yet there =
+    let place : suc q - 1 ≡ q = omega arith in
+    let within = open_within intakes q yet in
+    let same : read ≡ get_or intakes q no_intake = subst (λ n. read ≡ get_or intakes n read) place there ∙ get_or_default intakes q read no_intake within in
+    ap (λ n. slice_set intakes n (at_end read)) place ∙ ap (λ x. slice_set intakes q (at_end x)) same
+
+-- the count of ended providers after it
+pub counted_end : (intakes : List Intake) (provider : ℕ) (read : Intake) (count : ℕ) → (intake_of intakes provider).ended ≡ false → read ≡ get_or intakes (provider - 1) read
+    → count ≡ ends_in intakes → count + 1 ≡ ends_in (slice_set intakes (provider - 1) (at_end read))
+counted_end intakes provider read count yet there counted =
+    ap (λ n. n + 1) counted ∙ sym (ap ends_in (written_end intakes provider read yet there) ∙ one_more_end intakes provider yet)
+
 module _ (J : List Event) (providers : ℕ) (intakes : List Intake) (I : AreIntakesOf J providers intakes) where
   accept_each : (q place i : ℕ) → i < providers → (q ≡ i) ⊎ (q ≡ i → ⊥)
       → IsIntakeOf (J ++ Accept (suc q) place ∷ []) (suc i) (get_or (with_accept intakes (suc q)) i no_intake)
@@ -124,28 +169,15 @@ module _ (J : List Event) (providers : ℕ) (intakes : List Intake) (I : AreInta
         ∙ sym (ends-set intakes q (one_more (get_or intakes q no_intake)) no_intake refl);
   }
 
-  -- a provider that has not ended is one of the run
-  open_within : (q : ℕ) → (get_or intakes q no_intake).ended ≡ false → q < length intakes
-  open_within q yet =
-      elim (cases_lt q (length intakes)) [
-        | inl within ↦ within
-        | inr past ↦ absurd (both_ways (get_or intakes q no_intake).ended yet (ap (λ (x : Intake). x.ended) (get_or_past intakes q no_intake past)))
-      ]
-
   -- the progress agrees after a provider ends
   pub intakes_end : (provider : ℕ) → (intake_of intakes provider).ended ≡ false → AreIntakesOf (J ++ End provider ∷ []) providers (with_end intakes provider)
   intakes_end zero yet = absurd (both_ways true yet refl)
   intakes_end (suc q) yet =
-      let within = open_within q yet in
-      let more : ends_in (set intakes q (at_end (get_or intakes q no_intake))) + cond (get_or intakes q no_intake).ended 1 0 ≡ ends_in intakes + 1 =
-      sum_by-set (λ x. cond x.ended 1 0) intakes q (at_end (get_or intakes q no_intake)) no_intake within in
-      let none : cond (get_or intakes q no_intake).ended 1 0 ≡ 0 = cond-false {A = ℕ} (get_or intakes q no_intake).ended 1 0 yet in
-      let one : ends_in (with_end intakes (suc q)) ≡ ends_in intakes + 1 =
-      sym (ap (λ n. ends_in (with_end intakes (suc q)) + n) none ∙ add-zero (ends_in (with_end intakes (suc q)))) ∙ more in
+      let within = open_within intakes q yet in
       record {
         as_many = length-set intakes q (at_end (get_or intakes q no_intake)) ∙ I.as_many;
         each = λ i below. end_each q i within below (cases_eq q i);
-        ends = sum_by_push (λ e. cond (is_any_end e) 1 0) J (End (suc q)) ∙ ap (λ n. n + 1) I.ends ∙ sym one;
+        ends = sum_by_push (λ e. cond (is_any_end e) 1 0) J (End (suc q)) ∙ ap (λ n. n + 1) I.ends ∙ sym (one_more_end intakes (suc q) yet);
       }
 
   -- the progress of each provider of the run agrees with the journal

@@ -1,5 +1,5 @@
 -- How the results of a gate's calls follow from its indexes.
-use Rattle.std.proofs.Common.{◌≡◌, ℕ, zero, suc, ◌<◌, ◌≤◌, ◌+◌, ◌==◌, ◌&&◌, Bool, true, false, List, [], ◌∷◌, ◌++◌, length, get_or, replicate, cond, Option, Some, None, option_map, IsSome, IsTrue, refl, sym, ap, ◌∙◌, subst, inl, inr, arith, length-append, append_assoc}
+use Rattle.std.proofs.Common.{◌≡◌, ℕ, zero, suc, ◌<◌, ◌≤◌, ◌+◌, ◌==◌, ◌&&◌, Bool, true, false, List, [], ◌∷◌, ◌++◌, length, get_or, replicate, cond, Option, Some, None, option_map, IsSome, IsTrue, Result, Ok, Err, OnOk, IfOk, is_err, refl, sym, ap, ◌∙◌, subst, inl, inr, arith, length-append, append_assoc}
 use Rattle.std.specs.Borrow.{Bor}
 use Rattle.std.specs.List.{count_by, list_all, slice_get}
 use Rattle.std.specs.Option.{SomeIff, is_some, option_map_or}
@@ -14,7 +14,7 @@ use Rattle.settlement.specs.declared.claim.Claim.{Claim}
 use Rattle.settlement.specs.declared.outcome.Outcome.{Outcome}
 use Rattle.tables.specs.Plan.{PlanParts}
 use Rattle.claim_gate.specs.Terms.{TermsParts, AreTerms, texts_of, ForTerms}
-use Rattle.lanes.specs.Places.{Place, is_decided, started, InTurn}
+use Rattle.lanes.specs.Places.{Place, is_decided, phase_at, started, InTurn}
 use Rattle.lanes.specs.declared.phase.Phase.TheVariants.{InWork}
 use Rattle.lanes.specs.declared.ready_claim.ReadyClaim.{ReadyClaim}
 use Rattle.lanes.specs.Calls.{next_place, with_phase, with_decision, IsPicked, NothingReady}
@@ -27,8 +27,8 @@ use Rattle.journal.specs.Events.{accepted_count, place_in, places, closed, has_t
 use Rattle.journal.specs.Leading.{leads_itself, running_leads}
 use Rattle.journal.specs.Gate.{OfferReply, EndReply, TakeReply, Continues, GateAt, LeadsTo, Offers, Ends, Takes, is_any_decision}
 use Rattle.journal.specs.Lawful.{Finished, Lawful}
-use Rattle.claim_gate.specs.Shared.{InTurn as ShutTurn}
-use Rattle.journal.specs.Order.{StaysInOrder}
+use Rattle.claim_gate.specs.Shared.{IsDueAt}
+use Rattle.journal.specs.InOrder.{DueClaimStaysInOrder}
 use Rattle.journal.specs.Laws.{EmptyJournalIsLawful, OfferGoes, EndGoes, TakeGoes, FinishGoes}
 use Rattle.journal.specs.declared.event.Event.{Event}
 use Rattle.journal.specs.declared.event.Event.TheVariants.{Accept, End, Close, Take, Decide}
@@ -40,10 +40,19 @@ use Rattle.claim_gate.specs.Intakes.{no_intake, none_yet, intake_of, with_accept
 use Rattle.claim_gate.specs.GateIndex.{AreIntakesOf, AreMarked, IsKept, is_due}
 use Rattle.claim_gate.specs.Parts.{GateParts, at}
 use Rattle.claim_gate.specs.Replies.{HasClaims, IsFiled, IsOver, first_journal}
-use Rattle.claim_gate.proofs.Calls.{closed_where, offer_accepted, kept_accept, end_ended, kept_end, first_is, kept_start, take_work, kept_take, take_over, take_nothing, kept_decision}
+use Rattle.claim_gate.proofs.Calls.{closed_where, offer_accepted, kept_accept, end_ended, kept_end, first_is, kept_start, take_work, kept_take, take_over, take_nothing, is_in_work, kept_decision}
 use Rattle.claim_gate.proofs.Claims.{nowhere}
 use Rattle.claim_gate.proofs.Providers.{known_intake}
 use Rattle.claim_gate.proofs.Tallies.{all_by_count}
+
+-- what a call ensures if it succeeds, after it has succeeded
+pub ok-then : {X E : Type 0} (r : Result X E) (P : Type 0) → is_err r ≡ false → IfOk r (λ _. P) → P
+ok-then (Ok x) P succeeded holds = holds
+ok-then (Err e) P succeeded holds = absurd (both_ways true succeeded refl)
+
+pub ok-holds : {X E : Type 0} (r : Result X E) (P : Type 0) → is_err r ≡ false → OnOk r P → P
+ok-holds (Ok x) P succeeded holds = holds
+ok-holds (Err e) P succeeded holds = absurd (both_ways true succeeded refl)
 
 -- an event continues a journal, with or without the close after it
 event_goes_on : (b : Bool) (J : List Event) (event : Event) → Continues J (closed_where b (J ++ event ∷ []))
@@ -171,6 +180,21 @@ module _ (s : Inside) (g : GateParts) (is : seen s ≡ g) (kept : Keeps s) where
   still_open : s.closed ≡ false → closed s.journal.items ≡ false
   still_open h = sym kept.closed_is ∙ h
 
+  -- what the gate's fields imply of the gate as contracts see it
+  pub stopped_seen : s.stopped ≡ true → g.stopped ≡ true
+  stopped_seen h = subst (λ w. w.stopped ≡ true) is h
+
+  pub runs_seen : s.stopped ≡ false → g.stopped ≡ false
+  runs_seen h = subst (λ w. w.stopped ≡ false) is h
+
+  pub closed_seen : s.closed ≡ true → closed g.journal ≡ true
+  closed_seen h = subst (λ w. closed w.journal ≡ true) is (sym kept.closed_is ∙ h)
+
+  -- a claim that was taken and is not decided is in work
+  pub work_seen : (k : ℕ) → has_decision g.journal k ≡ false → has_take g.journal k ≡ true → phase_at s.lanes k ≡ Some InWork
+  work_seen k once taken =
+      is_in_work s.journal.items s.lanes kept.marked k (subst (λ w. has_decision w.journal k ≡ false) (sym is) once) (subst (λ w. has_take w.journal k ≡ true) (sym is) taken)
+
   -- an offer at another place than the provider's next one is refused
   pub out_of_turn : (offer : Offer) (expected : ℕ) → ForTerms g.terms (λ T. IsFiled T offer) → s.stopped ≡ false → s.closed ≡ false
       → expected ≡ (intake_of s.intakes offer.provider).accepted → (offer.place ≡ expected → ⊥)
@@ -211,28 +235,28 @@ module _ (s : Inside) (g : GateParts) (is : seen s ≡ g) (kept : Keeps s) where
       pub reply : ForTerms g.terms (λ T. Offers (at T g) offer.provider offer.place (OfferReply.Accepted position) (gate_of T J2))
       pub goes_on : Continues g.journal J2
 
-    pub accepts : OfferGoes → StaysInOrder → ShutTurn g offer.provider → g.stopped ≡ false → closed g.journal ≡ false → ForTerms g.terms (λ T. IsFiled T offer)
+    pub accepts : OfferGoes → DueClaimStaysInOrder → IsDueAt g offer.provider offer.place → g.stopped ≡ false → closed g.journal ≡ false → ForTerms g.terms (λ T. IsFiled T offer)
         → ForTerms g.terms (λ T. offer.place ≡ length (places g.journal offer.provider))
         → position ≡ length s.lanes → year ≡ account_year s.terms.now.plan offer.claim
         → lanes ≡ s.lanes ++ next_place s.lanes offer.claim year ∷ [] → intakes ≡ with_accept s.intakes offer.provider
         → J1 ≡ s.journal.items ++ Accept offer.provider offer.place ∷ [] → J2 ≡ closed_where b J1
         → b ≡ is_due s.terms.now (length lanes) intakes
         → IsAccepted
-    accepts goes stays order runs open_yet filed turn located dated lanes_are intakes_are accept_is journal_is when =
+    accepts goes stays next runs open_yet filed turn located dated lanes_are intakes_are accept_is journal_is when =
         let runs' : s.stopped ≡ false = runs_so runs in
         let open' : closed s.journal.items ≡ false = subst (λ w. closed w.journal ≡ false) (sym is) open_yet in
         let filed' : ForTerms s.terms.now (λ T. IsFiled T offer) = subst (λ w. ForTerms w.terms (λ T. IsFiled T offer)) (sym is) filed in
         let turn' : ForTerms s.terms.now (λ T. offer.place ≡ length (places s.journal.items offer.provider)) =
         subst (λ w. ForTerms w.terms (λ T. offer.place ≡ length (places w.journal offer.provider))) (sym is) turn in
-        let order' : ShutTurn (seen s) offer.provider = subst (λ w. ShutTurn w offer.provider) (sym is) order in
+        let next' : IsDueAt (seen s) offer.provider offer.place = subst (λ w. IsDueAt w offer.provider offer.place) (sym is) next in
         let more : List Place = s.lanes ++ next_place s.lanes offer.claim year ∷ [] in
         let when' : b ≡ is_due s.terms.now (length more) (with_accept s.intakes offer.provider) =
         when ∙ ap (λ l. is_due s.terms.now (length l) intakes) lanes_are ∙ ap (is_due s.terms.now (length more)) intakes_are in
         let journal' : J2 ≡ closed_where b (s.journal.items ++ Accept offer.provider offer.place ∷ []) = journal_is ∙ ap (closed_where b) accept_is in
         let keeps = kept_accept s.terms.now s.journal.items s.stopped s.lanes s.intakes s.closed s.decisions kept goes stays
-        offer.provider offer.place offer.claim year b runs' open' filed' turn' order' dated when' in
+        offer.provider offer.place offer.claim year b runs' open' filed' turn' next' dated when' in
         let answers = offer_accepted s.terms.now s.journal.items s.stopped s.lanes s.intakes s.closed s.decisions kept goes stays
-        offer.provider offer.place offer.claim year b runs' open' filed' turn' order' dated when' in
+        offer.provider offer.place offer.claim year b runs' open' filed' turn' next' dated when' in
         record {
           keeps =
               subst (λ j. IsKept s.terms.now j lanes intakes b s.decisions) (sym journal')

@@ -1,10 +1,10 @@
 -- How the contracts of the shared gate follow from those of the sequential gate.
-use Rattle.std.proofs.Common.{◌≡◌, ◌+◌, ◌∙◌, ℕ, refl, sym, ap, inl, inr, subst}
+use Rattle.std.proofs.Common.{◌≡◌, ◌≢◌, ◌<◌, ◌+◌, ◌∙◌, ◌++◌, ℕ, length, refl, sym, ap, inl, inr, arith, length-append, subst}
 use Rattle.claim_gate.specs.Terms.{ForTerms, IsTermsOf, TermsParts}
 use Rattle.settlement.specs.declared.acc.Acc.{Acc}
 use Rattle.settlement.specs.declared.claim.Claim.{Claim}
 use Rattle.journal.specs.Terms.{Terms}
-use Rattle.journal.specs.Events.{IsJob}
+use Rattle.journal.specs.Events.{Filed, IsJob, place_in, places}
 use Rattle.journal.specs.Gate.{GateAt, LeadsTo}
 use Rattle.journal.specs.Laws.{JobsAreStable}
 use Rattle.turn_lock.specs.TicketShown.{HasMet}
@@ -14,14 +14,17 @@ use Rattle.claim_gate.specs.Parts.{GateParts, at}
 use Rattle.claim_gate.specs.Replies.{IsWorkOf}
 use Rattle.claim_gate.specs.declared.fault.TakeFault.{TakeFault}
 use Rattle.claim_gate.specs.declared.reply.Taken.{Taken}
-use Rattle.std.proofs.Common.{◌||◌, Bool, true, List, Result, IfOk}
-use Rattle.std.proofs.lemmas.Bool.{or_cases, or_left, or_right}
+use Rattle.std.proofs.Common.{Bool, true, List, Result, IfOk}
+use Rattle.std.proofs.lemmas.Bool.{or_left}
 use Rattle.std.specs.List.{list_any}
+use Rattle.std.proofs.lemmas.List.Concat.{flat_map-append}
 use Rattle.std.proofs.lemmas.List.Folds.{list_any-append}
-use Rattle.journal.specs.Events.{closed, has_end, is_close, is_end}
 use Rattle.journal.specs.Gate.{Continues}
+use Rattle.journal.specs.InOrder.{IsDue}
 use Rattle.journal.specs.declared.event.Event.{Event}
-use Rattle.claim_gate.specs.Shared.{HadSection, HaveMet, InTurn, IsLawful, IsWornOut, Went, is_past}
+use Rattle.journal.specs.declared.order.Order.{Order}
+use Rattle.journal.specs.declared.order.Order.TheVariants.{Any}
+use Rattle.claim_gate.specs.Shared.{HadSection, HaveMet, IsDueAt, IsLawful, IsWornOut, Went}
 
 -- a state that leads to another one as contracts see the two also does so as journals see them
 pub leads_at : (T : Terms) (earlier later : GateParts) → LeadsTo earlier later → LeadsTo (at T earlier) (at T later)
@@ -91,17 +94,22 @@ pub any_goes_on : (test : Event → Bool) (J K : List Event) → Continues J K �
 any_goes_on test J K on h =
     subst (λ w. list_any test w ≡ true) (sym on.whole) (list_any-append test J on.rest ∙ or_left (list_any test J) (list_any test on.rest) h)
 
--- a provider of which no more claims are accepted remains one
-pub past_stays : (seen found : GateParts) (q : ℕ) → LeadsTo seen found → is_past seen q ≡ true → is_past found q ≡ true
-past_stays seen found q leads past = elim (or_cases (seen.stopped || closed seen.journal) (has_end seen.journal q) past) [
-  | inl shut ↦ or_left (found.stopped || closed found.journal) (has_end found.journal q) (elim (or_cases seen.stopped (closed seen.journal) shut) [
-    | inl stopped ↦ or_left found.stopped (closed found.journal) (ap (λ (g : GateParts). g.stopped) (leads.stop stopped) ∙ stopped)
-    | inr is_closed ↦ or_right found.stopped (closed found.journal) (any_goes_on is_close seen.journal found.journal leads.journal is_closed)
-  ])
-  | inr has_ended ↦ or_right (found.stopped || closed found.journal) (has_end found.journal q) (any_goes_on (is_end q) seen.journal found.journal leads.journal has_ended)
-]
+-- a claim that is due remains due in a continued journal
+due_goes_on : (order : Order) (T : Terms) (J K : List Event) (filed : Filed) → Continues J K → IsDue order T J filed → IsDue order T K filed
+due_goes_on order T J K filed on due = record {
+  earlier = due.earlier;
+  in_order = due.in_order;
+  accepted = λ n other at.
+      let before : other.place < length (places J other.provider) = due.accepted n other at in
+      let whole : length (places K other.provider) ≡ length (places (J ++ on.rest) other.provider) = ap (λ w. length (places w other.provider)) on.whole in
+      let parts : length (places (J ++ on.rest) other.provider) ≡ length (places J other.provider) + length (places on.rest other.provider) =
+      ap length (flat_map-append (place_in other.provider) J on.rest) ∙ length-append (places J other.provider) (places on.rest other.provider) in
+      omega (arith, before, whole, parts);
+}
 
--- a provider that is in turn in the state seen is also in turn in the state found
-pub turn_stays : (seen found : GateParts) (provider : ℕ) → LeadsTo seen found → InTurn seen provider → InTurn found provider
-turn_stays seen found provider leads turn by_files q least before =
-    past_stays seen found q leads (turn (ap (λ (t : TermsParts). t.in_order) (sym leads.terms) ∙ by_files) q least before)
+-- a claim that is due in the state seen is also due in the state found
+pub due_stays : (seen found : GateParts) (provider place : ℕ) → LeadsTo seen found → IsDueAt seen provider place → IsDueAt found provider place
+due_stays seen found provider place leads due =
+    let filed : Filed = record { provider = provider; place = place } in
+    subst (λ (t : TermsParts). t.order ≢ Any → ForTerms t (λ T. IsDue t.order T found.journal filed)) (sym leads.terms)
+    (λ asks T is. due_goes_on seen.terms.order T seen.journal found.journal filed leads.journal (due asks T is))

@@ -1,5 +1,5 @@
 -- The indexes of a gate, which save each call from a walk over the journal.
-use Rattle.std.specs.Prelude.{◌≡◌, ◌<◌, ℕ, suc, ◌||◌, Bool, true, false, List, length, count_by, get_or, slice_get, Some}
+use Rattle.std.specs.Prelude.{◌≡◌, ◌≢◌, ◌<◌, ℕ, suc, ◌||◌, Bool, true, false, List, length, count_by, get_or, slice_get, Some}
 use Rattle.std.specs.List.{list_all}
 use Rattle.std.specs.Option.{option_map_or}
 use Rattle.claim_gate.specs.Terms.{TermsParts, ForTerms}
@@ -11,11 +11,12 @@ use Rattle.lanes.specs.declared.phase.Phase.{Phase}
 use Rattle.lanes.specs.declared.phase.Phase.TheVariants.{Waiting, Ready, InWork, Decided}
 use Rattle.lanes.specs.Calls.{is_decided_at}
 use Rattle.journal.specs.Terms.{Terms}
-use Rattle.journal.specs.Events.{accepted_count, places, has_end, closed, has_take, has_decision, claim_at, before, reached}
+use Rattle.journal.specs.Events.{accepts, accepted_count, places, has_end, closed, has_take, has_decision, claim_at, before, reached}
 use Rattle.journal.specs.Lawful.{Lawful}
-use Rattle.journal.specs.Order.{IsInOrder}
+use Rattle.journal.specs.InOrder.{AreFirstInOrder}
 use Rattle.journal.specs.Gate.{is_any_end, is_any_decision}
 use Rattle.journal.specs.declared.event.Event.{Event}
+use Rattle.journal.specs.declared.order.Order.TheVariants.{Any}
 use Rattle.claim_gate.specs.declared.intakes.Intake.{Intake}
 use Rattle.claim_gate.specs.Intakes.{no_intake}
 
@@ -65,7 +66,8 @@ pub record AreIntakesOf (J : List Event) (providers : ℕ) (intakes : List Intak
   pub each : (i : ℕ) → i < providers → IsIntakeOf J (suc i) (get_or intakes i no_intake)
   pub ends : count_by is_any_end J ≡ count_by (λ x. x.ended) intakes
 
--- the indexes of a gate agree with its journal, and its journal is valid
+-- the indexes of a gate agree with its journal, and its journal is valid; where the terms ask for an order, claims are
+-- accepted in that order
 pub record IsKept (terms : TermsParts) (J : List Event) (lanes : List Place) (intakes : List Intake) (is_closed : Bool) (decisions : ℕ) : Type 0 where
   pub closed_is : is_closed ≡ closed J
   pub decisions_are : decisions ≡ count_by is_any_decision J
@@ -73,7 +75,7 @@ pub record IsKept (terms : TermsParts) (J : List Event) (lanes : List Place) (in
   pub marked : AreMarked J lanes
   pub places_are : ForTerms terms (λ T. ArePlacesOf T J lanes)
   pub lawful : ForTerms terms (λ T. Lawful T J)
-  pub ordered : terms.in_order ≡ true → ForTerms terms (λ T. IsInOrder T J)
+  pub ordered : terms.order ≢ Any → ForTerms terms (λ T. AreFirstInOrder terms.order T.files (accepts J))
 
 -- the close is due for this number of accepted claims and this progress of the files
 abbrev pub is_due : TermsParts → ℕ → List Intake → Bool

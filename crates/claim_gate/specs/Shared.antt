@@ -1,9 +1,10 @@
 -- A gate that several callers share: what one of them knows of it, and what each call implies.
-use Rattle.std.specs.Prelude.{◌≡◌, ◌⊎◌, ◌<◌, ◌≤◌, ◌||◌, ◌+◌, ℕ, Bool, true}
+use Rattle.std.specs.Prelude.{◌≡◌, ◌≢◌, ◌⊎◌, ◌+◌, ℕ}
 use Rattle.journal.specs.Gate.{GateAt, LeadsTo}
-use Rattle.journal.specs.Events.{closed, has_end}
+use Rattle.journal.specs.Events.{accepts}
+use Rattle.journal.specs.InOrder.{AreFirstInOrder, IsDue}
 use Rattle.journal.specs.Lawful.{Lawful}
-use Rattle.journal.specs.Order.{IsInOrder}
+use Rattle.journal.specs.declared.order.Order.TheVariants.{Any}
 use Rattle.claim_gate.specs.Terms.{ForTerms}
 use Rattle.claim_gate.specs.Parts.{GateParts, at}
 
@@ -11,17 +12,14 @@ use Rattle.claim_gate.specs.Parts.{GateParts, at}
 abbrev pub IsLawful : GateParts → Type 0
 IsLawful gate = ForTerms gate.terms (λ T. Lawful T gate.journal)
 
--- where the gate's terms ask for the order of the files, claims are accepted in that order
+-- where the gate's terms ask for an order, claims are accepted in that order
 abbrev pub IsOrdered : GateParts → Type 0
-IsOrdered gate = gate.terms.in_order ≡ true → ForTerms gate.terms (λ T. IsInOrder T gate.journal)
+IsOrdered gate = gate.terms.order ≢ Any → ForTerms gate.terms (λ T. AreFirstInOrder gate.terms.order T.files (accepts gate.journal))
 
--- no more claims of the provider are accepted: the gate is stopped or closed, or the provider has ended
-abbrev pub is_past : GateParts → ℕ → Bool
-is_past gate provider = (gate.stopped || closed gate.journal) || has_end gate.journal provider
-
--- where the gate's terms ask for the order of the files, no more claims of the providers before this one are accepted
-abbrev pub InTurn : GateParts → ℕ → Type 0
-InTurn gate provider = gate.terms.in_order ≡ true → (q : ℕ) → 1 ≤ q → q < provider → is_past gate q ≡ true
+-- where the gate's terms ask for an order, all claims that come before the one at this place are accepted
+abbrev pub IsDueAt : GateParts → ℕ → ℕ → Type 0
+IsDueAt gate provider place =
+    gate.terms.order ≢ Any → ForTerms gate.terms (λ T. IsDue gate.terms.order T gate.journal (record { provider = provider; place = place }))
 
 -- what a caller knows of the gate by its pass: the last state that it has seen, the state that its last section found, and
 -- the number of sections that it has ended

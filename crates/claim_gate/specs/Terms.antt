@@ -1,5 +1,5 @@
 -- The inputs of a run: as texts, as contracts see them, and as journals see them.
-use Rattle.std.specs.Prelude.{◌≡◌, ◌≤◌, ℕ, Bool, List, [], length, map, option_map, Option, Some, None, IsSome}
+use Rattle.std.specs.Prelude.{◌≡◌, ◌≤◌, ℕ, List, [], length, map, option_map, Option, Some, None, IsSome}
 use Rattle.std.specs.Borrow.{Bor}
 use Rattle.std.specs.List.{All, AllZip}
 use Rattle.tables.specs.Plan.{PlanParts}
@@ -17,16 +17,16 @@ use Rattle.settlement.specs.Opening.{opening}
 use Rattle.journal.specs.Terms.{Terms}
 use Rattle.journal.specs.Lawful.{Finished}
 use Rattle.journal.specs.declared.event.Event.{Event}
+use Rattle.journal.specs.declared.order.Order.{Order}
 
 -- the inputs of a run: the plan, the text of each provider's file, the opening balances by family and year with those of
--- each member, and the maximum number of claims that are accepted, if there is one
+-- each member, the maximum number of claims that are accepted, if there is one, and the order in which claims are accepted
 pub record TermsParts : Type 0 where
   pub plan : PlanParts
   pub files : List (List ℕ)
   pub balances : List Book
   pub cutoff : Option ℕ
-  -- all claims of a file are accepted before those of the next file
-  pub in_order : Bool
+  pub order : Order
 
 -- the claims of a file are those among its rows
 pub record AreClaimsOf (names : List InputData) (text : List ℕ) (claims : List Claim) : Type 0 where

@@ -23,7 +23,7 @@ pub trait Gate {
     ghost use Rattle.claim_gate.specs.Terms.{ForTerms};
     ghost use Rattle.claim_gate.specs.Parts.{at};
     ghost use Rattle.claim_gate.specs.Replies.{offer_reply, end_reply, take_reply, finish_reply, IsFiled, HasClaims, IsWorkOf};
-    ghost use Rattle.claim_gate.specs.Shared.{InTurn, Known, IsServed, IsWornOut, Went};
+    ghost use Rattle.claim_gate.specs.Shared.{IsDueAt, Known, IsServed, IsWornOut, Went};
 
     type Pass: Send + Drop;
 
@@ -52,7 +52,7 @@ pub trait Gate {
     ) -> Result<Served<OfferResult, Self::Pass>, WornOut<Self::Pass, Offer>>
         requires own { has_pass self.now pass }
         requires filed { ForTerms (known pass).seen.terms (λ T. IsFiled T offer) }
-        requires in_order { InTurn (known pass).seen offer.provider }
+        requires due { IsDueAt (known pass).seen offer.provider offer.place }
         ensures served { IfOk result (λ r. IsServed (has_pass self.now) known (known pass) r.pass) }
         ensures reply { IfOk result
             (λ r. Went (λ old new. Offers old offer.provider offer.place (offer_reply r.reply) new)

@@ -8,7 +8,8 @@
 //! of a family, and `journal` defines journals and the calls.
 //!
 //! `Terms::new` takes a plan, the texts of the providers' files, the text of the balances and a cutoff, and returns their
-//! `Terms`, or the first `TermsFault`. `specs/Terms.antt` defines terms, and `specs/TermsFault.antt` defines each fault.
+//! `Terms`, or the first `TermsFault`; `Terms::with_order` also takes the `Order` in which claims are accepted.
+//! `specs/Terms.antt` defines terms, and `specs/TermsFault.antt` defines each fault.
 //!
 //! Begin with `specs/Parts.antt` and `specs/Replies.antt`, which relate the calls to the definitions of `journal`; then read
 //! `state.rt`. `specs/GateIndex.antt` defines the indexes that save each call from a walk over the journal. For the shared gate
@@ -38,7 +39,7 @@ pub use fault::{EndFault, FinishFault, OfferFault, TakeFault};
 pub use faults::TermsFault;
 pub use gate::Gate;
 pub use job::{DecidedJob, Job};
-pub use journal::{BoxedOutcome, Event};
+pub use journal::{BoxedOutcome, Event, Order};
 pub use lanes::BoxedClaim;
 pub use laws::{claim_lists_exist, families_of_texts_are_their_members};
 pub use locked::LockedGate;

@@ -37,7 +37,7 @@ pub trait SerialGate: Growing {
     ghost use Rattle.claim_gate.specs.Parts.{GateParts, at};
     ghost use Rattle.claim_gate.specs.Replies.{offer_reply, end_reply, take_reply, finish_reply, IsFiled, HasClaims, IsWorkOf};
     ghost use Rattle.journal.specs.Gate.{LeadsTo};
-    ghost use Rattle.claim_gate.specs.Shared.{InTurn, IsLawful, IsOrdered};
+    ghost use Rattle.claim_gate.specs.Shared.{IsDueAt, IsLawful, IsOrdered};
 
     // The gate as contracts see it: its terms, its journal, and whether it is stopped.
     ghost shown: { Self → GateParts };
@@ -51,7 +51,7 @@ pub trait SerialGate: Growing {
     /// Offers a claim, as `GateState::offer` does.
     fn offer(&mut self, offer: Offer) -> OfferResult
         requires filed { ForTerms (shown self.old).terms (λ T. IsFiled T offer) }
-        requires in_order { InTurn (shown self.old) offer.provider }
+        requires due { IsDueAt (shown self.old) offer.provider offer.place }
         ensures grown { Self.leads self.old self.new }
         ensures reply { ForTerms (shown self.old).terms
             (λ T. Offers (at T (shown self.old)) offer.provider offer.place (offer_reply result)

@@ -13,7 +13,7 @@ ghost use Rattle.claim_gate.specs.GateIndex.{is_due};
 ghost use Rattle.claim_gate.specs.Terms.{ForTerms};
 ghost use Rattle.claim_gate.specs.Parts.{at};
 ghost use Rattle.claim_gate.specs.Replies.{offer_reply, end_reply, take_reply, finish_reply, IsFiled, HasClaims, IsOver, IsWorkOf, first_journal};
-ghost use Rattle.claim_gate.specs.Shared.{InTurn, IsLawful, IsOrdered};
+ghost use Rattle.claim_gate.specs.Shared.{IsDueAt, IsLawful, IsOrdered};
 
 use crate::answer::{FinishResult, OfferResult, Refused};
 use crate::counts::Counts;
@@ -24,7 +24,7 @@ use crate::offer::Offer;
 use crate::reply::{Accepted, Ended, Recorded, Taken};
 use crate::terms::Terms;
 use journal::{
-    BoxedOutcome, Event, acceptance_stays_in_order, empty_journal_is_lawful, gate_keeps_lawful,
+    BoxedOutcome, Event, due_claim_stays_in_order, empty_journal_is_lawful, gate_keeps_lawful,
 };
 use lanes::{BoxedClaim, Lanes, ReadyClaim};
 use settlement::{Acc, account_year, after};
@@ -125,7 +125,7 @@ impl<'t> GateState<'t> {
     /// Offers a claim, which is accepted if it is its provider's next one. Returns the offer where it is refused.
     pub fn offer(&mut self, offer: Offer) -> OfferResult
         requires filed { ForTerms self.old.terms (λ T. IsFiled T offer) }
-        requires in_order { InTurn self.old offer.provider }
+        requires due { IsDueAt self.old offer.provider offer.place }
         ensures reply { ForTerms self.old.terms
             (λ T. Offers (at T self.old) offer.provider offer.place (offer_reply result)
             (at T self.new)) }
@@ -162,7 +162,7 @@ impl<'t> GateState<'t> {
         requires filed { ForTerms self.old.terms (λ T. IsFiled T offer) }
         requires in_turn { ForTerms self.old.terms
             (λ T. offer.place ≡ length (places self.old.journal offer.provider)) }
-        requires in_order { InTurn self.old offer.provider }
+        requires due { IsDueAt self.old offer.provider offer.place }
         ensures reply { ForTerms self.old.terms
             (λ T. Offers (at T self.old) offer.provider offer.place (offer_reply result)
             (at T self.new)) }
@@ -171,9 +171,9 @@ impl<'t> GateState<'t> {
         ensures back { IfErr result (λ refused. refused.value ≡ offer) }
         ensures refused { OnErr result (self.new ≡ self.old) }
     {
-        // proof: each call keeps the journal valid, and an acceptance in turn keeps the order of the files.
+        // proof: each call keeps the journal valid, and the acceptance of a claim that is due keeps the order.
         gate_keeps_lawful();
-        acceptance_stays_in_order();
+        due_claim_stays_in_order();
         if self.journal.reserve(2).is_err() {
             return Err(Refused {
                 fault: OfferFault::OutOfMemory,

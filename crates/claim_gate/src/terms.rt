@@ -1,5 +1,5 @@
 //! Terms: the inputs of a run.
-ghost use Rattle.std.specs.Prelude.{◌≡◌, ◌≤◌, ◌-◌, false, [], List, get_or, length, IfOk, IfErr};
+ghost use Rattle.std.specs.Prelude.{◌≡◌, ◌≤◌, ◌-◌, [], List, get_or, length, IfOk, IfErr};
 ghost use Rattle.std.specs.Option.{unwrap_or};
 ghost use Rattle.claim_gate.specs.TermsFault.{HasTermsFault, IsFaultOfBalances, IsFaultOfFile, IsFaultOfFiles};
 ghost use Rattle.settlement.specs.Accounts.{account_of};
@@ -9,10 +9,12 @@ ghost use Rattle.intake_csv.specs.ClaimFile.{IsFileOf};
 ghost use Rattle.intake_csv.specs.Laws.{LieApart};
 ghost use Rattle.intake_csv.specs.Rows.{AreRowsLeft, AreRowsOf, IsAtStart};
 ghost use Rattle.intake_csv.specs.declared.rows.Row.{Row as AnyRow};
+ghost use Rattle.journal.specs.declared.order.Order.TheVariants.{Any};
 ghost use Rattle.claim_gate.specs.Terms.{AreBalancesOf, AreFilesOf, AreTerms, AreTermsOf, text_in, texts_of};
 
 use faults::TermsFault;
 use intake_csv::{BalanceFault, Balances, ClaimFile, FileFault, Rows, read_balances};
+use journal::Order;
 use settlement::{Acc, Claim, account_year};
 use std::alloc::{AllocError, Global};
 use std::marker::Model;
@@ -21,15 +23,15 @@ use tables::{Plan, Sequence};
 /// The maximum number of providers' files in a run.
 pub const FILES_LIMIT: usize = 64;
 
-/// The inputs of a run: a plan with roles, the text of each provider's file, the members' opening balances, and the
-/// maximum number of claims that are accepted. It borrows the plan and the texts.
+/// The inputs of a run: a plan with roles, the text of each provider's file, the members' opening balances, the maximum
+/// number of claims that are accepted, and the order in which they are accepted. It borrows the plan and the texts.
 pub struct Terms<'a> {
     plan: &'a Plan,
     files: &'a [&'a [u8]],
     validated: Sequence<ClaimFile<'a>>,
     balances: Option<Balances>,
     cutoff: Option<u64>,
-    in_order: bool,
+    order: Order,
 }
 
 impl Drop for Terms<'_> {
@@ -40,7 +42,7 @@ impl Drop for Terms<'_> {
             validated: _,
             balances: _,
             cutoff: _,
-            in_order: _,
+            order: _,
         } = self;
     }
 }
@@ -52,9 +54,9 @@ impl<'a> Model for Terms<'a> {
 
     ghost Value = { TermsParts };
 
-    ghost view = { λ t. record { plan = t.plan.now; files = texts_of t.files.now; balances = unwrap_or t.balances []; cutoff = t.cutoff; in_order = t.in_order } };
+    ghost view = { λ t. record { plan = t.plan.now; files = texts_of t.files.now; balances = unwrap_or t.balances []; cutoff = t.cutoff; order = t.order } };
 
-    ghost invariant = { λ t. AreTerms (record { plan = t.plan.now; files = texts_of t.files.now; balances = unwrap_or t.balances []; cutoff = t.cutoff; in_order = t.in_order }) × AreFilesOf t.plan.now.names (texts_of t.files.now) t.validated };
+    ghost invariant = { λ t. AreTerms (record { plan = t.plan.now; files = texts_of t.files.now; balances = unwrap_or t.balances []; cutoff = t.cutoff; order = t.order }) × AreFilesOf t.plan.now.names (texts_of t.files.now) t.validated };
 }
 
 impl<'a> Terms<'a> {
@@ -69,25 +71,25 @@ impl<'a> Terms<'a> {
     ) -> Result<Terms<'a>, TermsFault>
         ensures ok { IfOk result
             (AreTermsOf plan.now (texts_of files.now) (text_in balances.entry) cutoff) }
-        ensures any_order { IfOk result (λ terms. terms.in_order ≡ false) }
+        ensures any_order { IfOk result (λ terms. terms.order ≡ Any) }
         ensures fault { IfErr result
             (HasTermsFault plan.now (texts_of files.now) (text_in balances.entry)) }
     {
-        Terms::with_order(alloc, plan, files, balances, cutoff, false)
+        Terms::with_order(alloc, plan, files, balances, cutoff, Order::Any)
     }
 
-    /// Creates the terms as `new` does. With `in_order`, all claims of a file are accepted before those of the next file.
+    /// Creates the terms as `new` does. Where `order` is not `Any`, claims are accepted in that order.
     pub fn with_order(
         alloc: Global,
         plan: &'a Plan,
         files: &'a [&'a [u8]],
         balances: Option<&[u8]>,
         cutoff: Option<u64>,
-        in_order: bool,
+        order: Order,
     ) -> Result<Terms<'a>, TermsFault>
         ensures ok { IfOk result
             (AreTermsOf plan.now (texts_of files.now) (text_in balances.entry) cutoff) }
-        ensures order { IfOk result (λ terms. terms.in_order ≡ in_order) }
+        ensures order { IfOk result (λ terms. terms.order ≡ order) }
         ensures fault { IfErr result
             (HasTermsFault plan.now (texts_of files.now) (text_in balances.entry)) }
     {
@@ -103,7 +105,7 @@ impl<'a> Terms<'a> {
             validated: validate_files(alloc, plan, files)?,
             balances: balances_of(alloc, plan, balances)?,
             cutoff,
-            in_order,
+            order,
         })
     }
 
@@ -144,11 +146,11 @@ impl<'a> Terms<'a> {
         self.cutoff
     }
 
-    /// Returns whether all claims of a file are accepted before those of the next file.
-    pub fn in_order(&self) -> bool
-        ensures { result ≡ self.now.in_order }
+    /// Returns the order in which claims are accepted.
+    pub fn order(&self) -> Order
+        ensures { result ≡ self.now.order }
     {
-        self.in_order
+        self.order
     }
 
     /// Returns the opening accumulators of a claim's account. The member's own are zero where the balances have no entry for

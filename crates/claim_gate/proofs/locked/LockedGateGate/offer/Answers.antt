@@ -1,5 +1,5 @@
 use Rattle.std.proofs.Common.{◌+◌, ap, ◌∙◌, rules}
-use Rattle.claim_gate.proofs.Sharing.{section_of, still_for, turn_stays, worn_so}
+use Rattle.claim_gate.proofs.Sharing.{due_stays, section_of, still_for, worn_so}
 use Rattle.claim_gate.specs.Replies.{IsFiled}
 use Rattle.claim_gate.proofs.locked.LockedGateGate.offer.Goals as goal
 
@@ -16,12 +16,12 @@ returns-in-Ok-clause-served g c =
 pub returns-in-Ok-clause-reply : goal.returns-in-Ok-clause-reply
 returns-in-Ok-clause-reply g c = search rules
 
-pub offer-reply-requires-clause-in_order : goal.offer-reply-requires-clause-in_order
-offer-reply-requires-clause-in_order g c =
+pub offer-reply-requires-clause-due : goal.offer-reply-requires-clause-due
+offer-reply-requires-clause-due g c =
     let shown = g.S.Value.SerialGate.shown in
     let shows = g.met.S.Value.SerialGate.shows in
     let seen = g.S.Section.seen c.args.pass in
-    turn_stays (shown seen) (shown c.in-Ok.state) c.args.offer.provider (shows seen c.in-Ok.state c.in-Ok.ensures.fresh) c.requires.in_order
+    due_stays (shown seen) (shown c.in-Ok.state) c.args.offer.provider c.args.offer.place (shows seen c.in-Ok.state c.in-Ok.ensures.fresh) c.requires.due
 
 pub returns-in-Err-clause-worn : goal.returns-in-Err-clause-worn
 returns-in-Err-clause-worn g c =
