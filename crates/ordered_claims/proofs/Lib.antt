@@ -1,0 +1,5 @@
+pub mod Lists
+pub mod Reading
+pub mod FirstOfFiles
+pub mod Ordering
+pub mod Keeping

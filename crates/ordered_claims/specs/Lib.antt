@@ -1,0 +1,4 @@
+pub mod OrderedParts
+pub mod ReadAhead
+pub mod FirstHead
+pub mod Kept

@@ -1,0 +1,65 @@
+//! The first of the files' next claims.
+ghost use Rattle.std.specs.Prelude.{◌≡◌, ◌<◌, ◌+◌, length};
+ghost use Rattle.ordered_claims.specs.FirstHead.{IsFirstOf, is_sooner as sooner};
+
+use crate::open_file::OpenFile;
+use feel_tests::Day;
+use journal::Order;
+
+/// A file's next claim.
+#[derive(Clone, Copy)]
+pub(crate) struct Head {
+    /// The index of the file, from 0.
+    pub(crate) index: usize,
+    /// The day of service of the claim.
+    pub(crate) day: Day,
+}
+
+/// Returns the first of the files' next claims in an order, or `None` if no file has a claim left.
+pub(crate) fn first_head(order: Order, files: &[OpenFile<'_>]) -> Option<Head>
+    ensures { IsFirstOf order files.now (length files.now) result }
+{
+    let mut first = None;
+    for index in 0..files.len() {
+        first = first_with(order, files, first, index);
+    }
+    first
+}
+
+// Returns the first of the next claims of the files up to this index, given the first of those before it.
+fn first_with(
+    order: Order,
+    files: &[OpenFile<'_>],
+    first: Option<Head>,
+    index: usize,
+) -> Option<Head>
+    requires within { index < length files.now }
+    requires first { IsFirstOf order files.now index first }
+    ensures { IsFirstOf order files.now (index + 1) result }
+{
+    let Some(claim) = &files[index].next else {
+        return first;
+    };
+    let head = Head {
+        index,
+        day: claim.as_claim().service,
+    };
+    let Some(earlier) = first else {
+        return Some(head);
+    };
+    if is_sooner(order, head.day, earlier.day) {
+        return Some(head);
+    }
+    Some(earlier)
+}
+
+// Returns whether a later file's claim of the first day comes before an earlier file's claim of the second day.
+fn is_sooner(order: Order, later: Day, earlier: Day) -> bool
+    ensures { result ≡ sooner order later earlier }
+{
+    match order {
+        Order::Any => false,
+        Order::Files => false,
+        Order::Service => later.epoch_day() < earlier.epoch_day(),
+    }
+}
