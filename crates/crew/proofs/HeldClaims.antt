@@ -1,7 +1,7 @@
 -- The claims in work that a worker holds stay in work in each later state of the gate.
-use Rattle.std.proofs.Common.{◌≡◌, ℕ, true, List, [], ◌∷◌, ◌++◌, map, Result, Ok, Err, sym, ap, subst, ◌∙◌, append_assoc}
+use Rattle.std.proofs.Common.{◌≡◌, Bool, true, List, [], ◌∷◌, ◌++◌, map, Result, Ok, Err, sym, ap, subst, ◌∙◌, append_assoc}
 use Rattle.std.specs.Prelude.{IfOk}
-use Rattle.std.specs.List.{All}
+use Rattle.std.specs.List.{All, list_any}
 use Rattle.std.proofs.lemmas.Bool.{or_left}
 use Rattle.std.proofs.lemmas.List.Elements.{All-map, All-weaker}
 use Rattle.std.proofs.lemmas.List.Folds.{list_any-append}
@@ -9,7 +9,7 @@ use Rattle.settlement.specs.Claim.{IsClaimOf}
 use Rattle.settlement.specs.Settlement.{outcome}
 use Rattle.settlement.specs.declared.outcome.Outcome.{Outcome}
 use Rattle.tables.specs.Plan.{PlanParts}
-use Rattle.journal.specs.Events.{has_decision, is_decide, is_take, has_take}
+use Rattle.journal.specs.Events.{is_decide, is_take}
 use Rattle.journal.specs.Gate.{Continues, LeadsTo}
 use Rattle.journal.specs.Laws.{JobsAreStable}
 use Rattle.journal.specs.Settled.{outcome_of}
@@ -23,15 +23,14 @@ use Rattle.crew.specs.declared.shared.Onward.{Onward}
 use Rattle.crew.specs.declared.worker.TakenJobs.{TakenJobs}
 use Rattle.claim_gate.specs.declared.job.DecidedJob.{DecidedJob}
 
--- a position that is taken stays taken
-taken_stays : (J K : List Event) (position : ℕ) → Continues J K → has_take J position ≡ true → has_take K position ≡ true
-taken_stays J K position on is =
-    ap (λ w. has_take w position) on.whole ∙ list_any-append (is_take position) J on.rest ∙ or_left (has_take J position) (has_take on.rest position) is
+-- if an event of a journal passes a test, so does an event of each journal that continues it
+pub any_goes_on : (test : Event → Bool) (J K : List Event) → Continues J K → list_any test J ≡ true → list_any test K ≡ true
+any_goes_on test J K on is = ap (list_any test) on.whole ∙ list_any-append test J on.rest ∙ or_left (list_any test J) (list_any test on.rest) is
 
 -- a claim in work stays in work
 pub in_work_stays : JobsAreStable → (a b : GateParts) (job : Job) → LeadsTo a b → IsInWork a job → IsInWork b job
 in_work_stays stay a b job leads w = record {
-  in_work = taken_stays a.journal b.journal job.position leads.journal w.in_work;
+  in_work = any_goes_on (is_take job.position) a.journal b.journal leads.journal w.in_work;
   is_job = job_stays stay a b job.position job.claim job.acc leads w.is_job;
   fields = subst (λ terms. IsClaimOf terms.plan job.claim) (sym leads.terms) w.fields;
 }
@@ -52,11 +51,7 @@ all_settled_stay stay a b settled leads all = All-weaker (IsSettledIn a) (IsSett
 
 -- a decision that is recorded stays recorded
 pub recorded_stays : (a b : GateParts) (settled : DecidedJob) → LeadsTo a b → IsRecordedIn a settled → IsRecordedIn b settled
-recorded_stays a b settled leads is =
-    let on = leads.journal in
-    let position = settled.job.position in
-    ap (λ w. has_decision w position) on.whole ∙ list_any-append (is_decide position) a.journal on.rest
-    ∙ or_left (has_decision a.journal position) (has_decision on.rest position) is
+recorded_stays a b settled leads is = any_goes_on (is_decide settled.job.position) a.journal b.journal leads.journal is
 
 pub all_recorded_stay : (a b : GateParts) (settled : List DecidedJob) → LeadsTo a b → All (IsRecordedIn a) settled → All (IsRecordedIn b) settled
 all_recorded_stay a b settled leads all = All-weaker (IsRecordedIn a) (IsRecordedIn b) (λ one is. recorded_stays a b one leads is) settled all

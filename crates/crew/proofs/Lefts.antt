@@ -9,7 +9,7 @@ use Rattle.faults.specs.declared.file_fault.RowFault.{RowFault}
 use Rattle.intake_csv.specs.declared.records.Stage.TheVariants.{Over}
 use Rattle.intake_csv.specs.declared.rows.Row.{Row}
 use Rattle.intake_csv.specs.declared.rows.Row.TheVariants.{Good, Bad}
-use Rattle.claim_gate.specs.Terms.{AreClaimsOf, IsTermsOf, TermsParts, ForTerms}
+use Rattle.claim_gate.specs.Terms.{AreClaimsOf, IsTermsOf, TermsParts}
 use Rattle.journal.specs.Terms.{Terms, claims_of}
 use Rattle.claim_gate.specs.Parts.{GateParts}
 use Rattle.claim_gate.specs.Replies.{HasClaims}

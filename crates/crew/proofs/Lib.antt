@@ -4,3 +4,4 @@ pub mod Claims
 pub mod Lefts
 pub mod HeldClaims
 pub mod Passes
+pub mod Offers

@@ -3,3 +3,4 @@ pub mod Workers
 pub mod Sharing
 pub mod Passes
 pub mod Reading
+pub mod Accepting

@@ -1,19 +1,16 @@
 //! The work of an intake thread, which reads a provider's file and offers its claims.
-ghost use Rattle.std.specs.Prelude.{◌≡◌, ◌<◌, ◌≤◌, ◌+◌, ◌-◌, ◌^◌, true, [], length, get_or, IfOk, IfErr};
+ghost use Rattle.std.specs.Prelude.{◌≡◌, ◌<◌, ◌≤◌, ◌-◌, true, [], length, get_or, IfOk, IfErr};
 ghost use Rattle.intake_csv.specs.Rows.{IsAtStart};
-ghost use Rattle.claim_gate.specs.Terms.{ForTerms};
-ghost use Rattle.claim_gate.specs.Replies.{HasClaims, IsFiled};
-ghost use Rattle.claim_gate.specs.Shared.{InTurn};
 ghost use Rattle.crew.specs.Passes.{GoesOn, LeavesWith};
 ghost use Rattle.crew.specs.Reading.{IsAtRecord, IsStep, Reads};
-ghost use Rattle.crew.specs.Sharing.{GoesOnAt, HasAccepted, is_past};
+ghost use Rattle.crew.specs.Sharing.{is_past};
 ghost use Rattle.faults.specs.declared.run_fault.RunFault.TheVariants.{OutOfMemory};
+ghost use Rattle.journal.specs.declared.order.Order.TheVariants.{Any};
 
+use crate::acceptor::run_acceptor;
+use crate::offering::{end, offer};
 use crate::shared::{Exit, Onward, Shared};
-use crate::stopping::ATTEMPTS;
-use claim_gate::{
-    BoxedClaim, EndFault, Gate, Offer, OfferFault, Refused, Served, Terms, claim_lists_exist,
-};
+use claim_gate::{BoxedClaim, Gate, Offer, Order, Terms};
 use faults::RunFault;
 use gate_batching::{BatchTurn, OFFERS_LIMIT};
 use intake_csv::{
@@ -53,8 +50,8 @@ enum Record {
     Missing,
 }
 
-/// Does the work of the intake with this number, from 0, which offers the claims of its provider's file. Where claims are
-/// accepted in the order of the files, intake 0 offers those of all files, and the others do nothing.
+/// Does the work of the intake with this number, from 0, which offers the claims of its provider's file. Where the terms ask
+/// for an order, intake 0 is the acceptor, which offers the claims of all files, and the others do nothing.
 pub(crate) fn run_intake_part<R: Wait, G: Gate>(
     shared: &Shared<R, G>,
     pass: G::Pass,
@@ -69,34 +66,13 @@ pub(crate) fn run_intake_part<R: Wait, G: Gate>(
 {
     // proof: the number of files has an upper limit, so `number + 1` does not overflow.
     let _files = shared.terms.files();
-    if !shared.terms.in_order() {
-        return run_intake(shared, pass, number + 1);
-    }
-    if number != 0 {
-        return Ok(pass);
-    }
-    run_intakes(shared, pass)
-}
-
-// Offers the claims of all files, one file after another. Each file begins after the end of the file before it.
-fn run_intakes<R: Wait, G: Gate>(
-    shared: &Shared<R, G>,
-    mut pass: G::Pass,
-) -> Result<G::Pass, Exit<G::Pass>>
-    requires own { G.has_pass shared.now.gate.now pass }
-    requires terms { (G.known pass).seen.terms ≡ shared.now.terms.now }
-    ensures goes_on { IfOk result (GoesOn (G.has_pass shared.now.gate.now) G.known pass) }
-    ensures leaves { IfErr result
-        (LeavesWith (G.has_pass shared.now.gate.now) G.is_worn G.known pass) }
-{
-    let files = shared.terms.files().len();
-    'files: for place in 0..files {
-        pass = match run_intake(shared, pass, place + 1) {
-            Ok(pass) => pass,
-            Err(exit) => return Err(exit),
-        };
-    }
-    Ok(pass)
+    let Order::Any = shared.terms.order() else {
+        if number != 0 {
+            return Ok(pass);
+        }
+        return run_acceptor(shared, pass);
+    };
+    run_intake(shared, pass, number + 1)
 }
 
 // Offers the claims of a provider's file in order, and ends the provider after the last one. Claims that other callers have
@@ -108,7 +84,7 @@ fn run_intake<R: Wait, G: Gate>(
 ) -> Result<G::Pass, Exit<G::Pass>>
     requires own { G.has_pass shared.now.gate.now pass }
     requires terms { (G.known pass).seen.terms ≡ shared.now.terms.now }
-    requires in_order { InTurn (G.known pass).seen provider }
+    requires any_order { shared.now.terms.now.order ≡ Any }
     requires least { 1 ≤ provider }
     requires most { provider ≤ length shared.now.terms.now.files }
     ensures goes_on { IfOk result (GoesOn (G.has_pass shared.now.gate.now) G.known pass) }
@@ -150,7 +126,7 @@ fn offer_turn<R: Wait, G: Gate>(
     intake: &mut Intake<'_>,
 ) -> Result<Onward<Step, G::Pass>, Exit<G::Pass>>
     requires own { G.has_pass shared.now.gate.now pass }
-    requires in_order { InTurn (G.known pass).seen intake.old.provider }
+    requires any_order { shared.now.terms.now.order ≡ Any }
     requires at { IsAtRecord shared.now.terms.now (G.known pass).seen intake.old }
     ensures goes_on { IfOk result
         (λ r. GoesOn (G.has_pass shared.now.gate.now) G.known pass r.pass) }
@@ -196,7 +172,7 @@ fn offer_next<R: Wait, G: Gate>(
     turn: &BatchTurn,
 ) -> Result<Onward<Step, G::Pass>, Exit<G::Pass>>
     requires own { G.has_pass shared.now.gate.now pass }
-    requires in_order { InTurn (G.known pass).seen intake.old.provider }
+    requires any_order { shared.now.terms.now.order ≡ Any }
     requires at { IsAtRecord shared.now.terms.now (G.known pass).seen intake.old }
     ensures goes_on { IfOk result
         (λ r. GoesOn (G.has_pass shared.now.gate.now) G.known pass r.pass) }
@@ -279,112 +255,4 @@ fn open<'t>(alloc: Global, terms: &Terms<'t>, provider: usize) -> Result<Rows<'t
         Ok(rows) => Ok(rows),
         Err(AllocError) => Err(RunFault::OutOfMemory),
     }
-}
-
-// Offers a claim, in at most `ATTEMPTS` calls. Returns the place of the provider's next claim, or `None` where no more claims
-// are accepted.
-fn offer<R: Wait, G: Gate>(
-    shared: &Shared<R, G>,
-    mut pass: G::Pass,
-    mut offer: Offer,
-    turn: &BatchTurn,
-) -> Result<Onward<Option<usize>, G::Pass>, Exit<G::Pass>>
-    requires own { G.has_pass shared.now.gate.now pass }
-    requires terms { (G.known pass).seen.terms ≡ shared.now.terms.now }
-    requires filed { ForTerms shared.now.terms.now (λ T. IsFiled T offer) }
-    requires in_order { InTurn (G.known pass).seen offer.provider }
-    requires taken { HasAccepted (G.known pass).seen offer.provider offer.place }
-    requires room { offer.place + 1 < 2 ^ 64 }
-    ensures goes_on { IfOk result
-        (λ r. GoesOn (G.has_pass shared.now.gate.now) G.known pass r.pass) }
-    ensures next { IfOk result
-        (λ r. GoesOnAt (G.known r.pass).seen offer.provider offer.place r.value) }
-    ensures leaves { IfErr result
-        (LeavesWith (G.has_pass shared.now.gate.now) G.is_worn G.known pass) }
-{
-    // proof: the claim files have lists of claims, so a statement about all such lists is not empty.
-    claim_lists_exist(shared.terms);
-    let following = offer.place + 1;
-    'tries: for _ in 0..ATTEMPTS {
-        let served = match shared.gate.offer(shared.rt, pass, offer) {
-            Ok(served) => served,
-            Err(worn) => return Err(Exit {
-                fault: RunFault::Worn,
-                pass: worn.pass,
-            }),
-        };
-        let Served { reply, pass: after } = served;
-        let refused = match reply {
-            Ok(_) => {
-                turn.count_offer();
-                return Ok(Onward {
-                    value: Some(following),
-                    pass: after,
-                });
-            }
-            Err(refused) => refused,
-        };
-        let Refused { fault, value } = refused;
-        match fault {
-            OfferFault::OutOfTurn { expected } => return Ok(Onward {
-                value: Some(expected),
-                pass: after,
-            }),
-            OfferFault::Closed => return Ok(Onward {
-                value: None,
-                pass: after,
-            }),
-            OfferFault::Stopped => return Ok(Onward {
-                value: None,
-                pass: after,
-            }),
-            OfferFault::OutOfMemory => (pass, offer) = (after, value),
-        }
-    }
-    Err(Exit {
-        fault: RunFault::OutOfMemory,
-        pass,
-    })
-}
-
-// Ends a provider of which all `count` claims are accepted, in at most `ATTEMPTS` calls.
-fn end<R: Wait, G: Gate>(
-    shared: &Shared<R, G>,
-    mut pass: G::Pass,
-    provider: usize,
-    count: usize,
-) -> Result<G::Pass, Exit<G::Pass>>
-    requires own { G.has_pass shared.now.gate.now pass }
-    requires terms { (G.known pass).seen.terms ≡ shared.now.terms.now }
-    requires claims { ForTerms shared.now.terms.now (λ T. HasClaims T provider count) }
-    requires taken { HasAccepted (G.known pass).seen provider count }
-    ensures goes_on { IfOk result (GoesOn (G.has_pass shared.now.gate.now) G.known pass) }
-    ensures past { IfOk result (λ p. is_past (G.known p).seen provider ≡ true) }
-    ensures leaves { IfErr result
-        (LeavesWith (G.has_pass shared.now.gate.now) G.is_worn G.known pass) }
-{
-    // proof: the claim files have lists of claims, so a statement about all such lists is not empty.
-    claim_lists_exist(shared.terms);
-    'tries: for _ in 0..ATTEMPTS {
-        let served = match shared.gate.end(shared.rt, pass, provider, count) {
-            Ok(served) => served,
-            Err(worn) => return Err(Exit {
-                fault: RunFault::Worn,
-                pass: worn.pass,
-            }),
-        };
-        let Served { reply, pass: after } = served;
-        match reply {
-            Ok(_) => return Ok(after),
-            Err(EndFault::AlreadyEnded) => return Ok(after),
-            Err(EndFault::Closed) => return Ok(after),
-            Err(EndFault::Stopped) => return Ok(after),
-            Err(EndFault::OutOfMemory) => pass = after,
-            Err(EndFault::OutOfTurn { .. }) => unreachable!(),
-        }
-    }
-    Err(Exit {
-        fault: RunFault::OutOfMemory,
-        pass,
-    })
 }

@@ -3,14 +3,18 @@
 //! `run` starts an intake thread for each provider's file and the given number of workers. They share a gate from
 //! `claim_gate`, which a lock from `turn_lock` protects. The terms come from `claim_gate`, the readers of the files from
 //! `intake_csv`, the decisions from `settlement`, and the hints about which thread calls the gate next from `gate_batching`.
-//! `run_with` uses a gate of the caller's.
+//! Where the terms ask for an order, the first intake thread alone offers the claims of all files, as `ordered_claims` gives
+//! them. `run_with` uses a gate of the caller's.
 //!
-//! Begin with `threads.rt`, which has the contracts of `run` and `run_with`; `intake.rt` and `worker.rt` have the work of the
-//! threads, and `shared.rt` has what all threads of a run use.
+//! Begin with `threads.rt`, which has the contracts of `run` and `run_with`; `intake.rt`, `acceptor.rt` and `worker.rt` have
+//! the work of the threads, `offering.rt` has the calls by which claims are accepted, and `shared.rt` has what all threads of a
+//! run use.
 #![tactic(auto)]
 
+mod acceptor;
 mod intake;
 mod least_fault;
+mod offering;
 mod shared;
 mod stopping;
 mod threads;

@@ -1,7 +1,9 @@
 //! A run by an intake thread for each provider's file and the given number of workers.
 ghost use Rattle.std.specs.Prelude.{◌≡◌, ◌≢◌, ◌⊎◌, ◌↔◌, ◌<◌, ◌≤◌, ◌+◌, true, IsTrue, length, IfOk, IfErr, OnOk};
 ghost use Rattle.journal.specs.Lawful.{Finished};
-ghost use Rattle.journal.specs.Order.{IsInOrder};
+ghost use Rattle.journal.specs.Events.{accepts};
+ghost use Rattle.journal.specs.InOrder.{AreFirstInOrder};
+ghost use Rattle.journal.specs.declared.order.Order.TheVariants.{Any};
 ghost use Rattle.claim_gate.specs.Terms.{ForTerms};
 ghost use Rattle.journal.specs.Gate.{LeadsTo};
 ghost use Rattle.crew.specs.Passes.{GoesOn, HasEnded, LeavesWith};
@@ -28,7 +30,8 @@ use turn_lock::{Section, TicketLock};
 pub const WORKERS_LIMIT: usize = 64;
 
 /// Runs an intake thread for each provider's file and 1 to 64 workers, on a new gate that a ticket lock protects. Returns the
-/// batch, whose journal is finished. The calling thread works as an additional worker. The faults are those of `run_with`.
+/// batch, whose journal is finished, and whose claims are accepted in the order that the terms ask for, if any. The calling
+/// thread works as an additional worker. The faults are those of `run_with`.
 pub fn run<'t, R: Threads + Wait + Sync>(
     rt: &R,
     alloc: Global,
@@ -37,8 +40,8 @@ pub fn run<'t, R: Threads + Wait + Sync>(
 ) -> Result<Batch<'t>, RunFault>
     ensures terms { IfOk result (λ batch. batch.terms ≡ terms.now) }
     ensures finished { IfOk result (λ batch. ForTerms terms.now (λ T. Finished T batch.journal)) }
-    ensures ordered { IfOk result
-        (λ batch. terms.now.in_order ≡ true → ForTerms terms.now (λ T. IsInOrder T batch.journal)) }
+    ensures ordered { IfOk result (λ batch. terms.now.order ≢ Any → ForTerms terms.now
+        (λ T. AreFirstInOrder terms.now.order T.files (accepts batch.journal))) }
     ensures workers { OnOk result (IsWorkerCount workers) }
     ensures refused { IfErr result (λ fault. (fault ≡ Workers) ↔ (¬ IsWorkerCount workers)) }
 {
@@ -62,7 +65,7 @@ pub fn run<'t, R: Threads + Wait + Sync>(
         Err(fault) => return Err(fault),
     };
     let state = Box::into_inner(state);
-    // proof: the journal is in the order of the files where the terms ask for it.
+    // proof: the claims are accepted in the order that the terms ask for.
     let _ordered = state.journal();
     match Batch::from_state(state, terms) {
         Ok(batch) => Ok(batch),

@@ -1,5 +1,5 @@
-use Rattle.std.proofs.Common.{◌≡◌, refl, subst, sym, ◌∙◌}
-use Rattle.claim_gate.specs.Shared.{InTurn}
+use Rattle.std.proofs.Common.{refl, ◌∙◌}
+use Rattle.crew.proofs.Offers.{due_in_any}
 use Rattle.crew.proofs.Passes.{leaves_for_memory, unchanged}
 use Rattle.crew.proofs.intake.offer_next.Goals as goal
 
@@ -39,11 +39,9 @@ offer-requires-clause-filed g c κs within =
     let reads = rw c.in-Claim.is at c.in-Ok.ensures in
     (reads c.args.shared.now.terms.now (g.G.Gate.known c.args.pass).seen c.requires.at).filed
 
-pub offer-requires-clause-in_order : goal.offer-requires-clause-in_order
-offer-requires-clause-in_order g c κs within =
-    let reads = rw c.in-Claim.is at c.in-Ok.ensures in
-    let seen = (g.G.Gate.known c.args.pass).seen in
-    subst (InTurn seen) (sym (reads c.args.shared.now.terms.now seen c.requires.at).own) c.requires.in_order
+pub offer-requires-clause-due : goal.offer-requires-clause-due
+offer-requires-clause-due g c κs within =
+    due_in_any c.args.shared.now.terms.now (g.G.Gate.known c.args.pass).seen _ _ c.requires.at.of_terms c.requires.any_order
 
 pub offer-requires-clause-taken : goal.offer-requires-clause-taken
 offer-requires-clause-taken g c κs within =

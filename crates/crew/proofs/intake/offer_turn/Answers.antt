@@ -1,6 +1,4 @@
-use Rattle.std.proofs.Common.{refl, sym, subst, ◌∙◌, arith}
-use Rattle.claim_gate.proofs.Sharing.{turn_stays}
-use Rattle.claim_gate.specs.Shared.{InTurn}
+use Rattle.std.proofs.Common.{refl, ◌∙◌, arith}
 use Rattle.crew.proofs.Passes.{further, leaves_later, unchanged}
 use Rattle.crew.proofs.intake.offer_turn.Goals as goal
 
@@ -15,11 +13,8 @@ records-init g c = (
 pub offer_next-requires-clause-own : goal.offer_next-requires-clause-own
 offer_next-requires-clause-own g c κs within = c.records.invariant.0.own
 
-pub offer_next-requires-clause-in_order : goal.offer_next-requires-clause-in_order
-offer_next-requires-clause-in_order g c κs within =
-    let after = (g.G.Gate.known c.records.pass).seen in
-    subst (InTurn after) (sym c.records.invariant.2)
-    (turn_stays (g.G.Gate.known c.args.pass).seen after c.args.intake.now.provider c.records.invariant.0.seen c.requires.in_order)
+pub offer_next-requires-clause-any_order : goal.offer_next-requires-clause-any_order
+offer_next-requires-clause-any_order g c κs within = c.requires.any_order
 
 pub offer_next-requires-clause-at : goal.offer_next-requires-clause-at
 offer_next-requires-clause-at g c κs within = c.records.invariant.1

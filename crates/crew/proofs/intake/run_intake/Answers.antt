@@ -1,11 +1,9 @@
-use Rattle.std.proofs.Common.{refl, sym, subst, ◌∙◌, arith}
+use Rattle.std.proofs.Common.{refl, ◌∙◌, arith}
 use Rattle.std.proofs.lemmas.Bool.{or_left}
 use Rattle.journal.specs.Events.{has_end}
 use Rattle.crew.specs.Sharing.{is_shut}
 use Rattle.crew.proofs.Lefts.{first_record, left_none}
 use Rattle.crew.proofs.Passes.{further, further_where_ok, leaves_by_memory, leaves_later, leaves_later_where_err, unchanged}
-use Rattle.claim_gate.proofs.Sharing.{turn_stays}
-use Rattle.claim_gate.specs.Shared.{InTurn}
 use Rattle.crew.proofs.intake.run_intake.Goals as goal
 
 pub turns-init : goal.turns-init
@@ -25,11 +23,8 @@ returns-in-Err-clause-leaves g c =
 pub offer_turn-requires-clause-own : goal.offer_turn-requires-clause-own
 offer_turn-requires-clause-own g c κs within = c.turns.invariant.0.own
 
-pub offer_turn-requires-clause-in_order : goal.offer_turn-requires-clause-in_order
-offer_turn-requires-clause-in_order g c κs within =
-    let after = (g.G.Gate.known c.turns.pass).seen in
-    subst (InTurn after) (sym c.turns.invariant.2)
-    (turn_stays (g.G.Gate.known c.args.pass).seen after c.args.provider c.turns.invariant.0.seen c.requires.in_order)
+pub offer_turn-requires-clause-any_order : goal.offer_turn-requires-clause-any_order
+offer_turn-requires-clause-any_order g c κs within = c.requires.any_order
 
 pub offer_turn-requires-clause-at : goal.offer_turn-requires-clause-at
 offer_turn-requires-clause-at g c κs within = c.turns.invariant.1
@@ -89,3 +84,8 @@ pub returns-in-Leave-clause-past : goal.returns-in-Leave-clause-past
 returns-in-Leave-clause-past g c =
     let after = (g.G.Gate.known c.in-Ok-offer_turn.onward.pass).seen in
     or_left (is_shut after) (has_end after.journal c.args.provider) (rw c.in-Leave.is at c.in-Ok-offer_turn.ensures.step)
+
+pub turns-smaller : goal.turns-smaller
+turns-smaller g c =
+    let read = rw c.in-NextRecord.is at c.in-Ok-offer_turn.ensures.step in
+    read.fewer

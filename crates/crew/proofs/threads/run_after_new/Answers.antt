@@ -5,6 +5,7 @@ use Rattle.journal.specs.Lawful.{Finished, Lawful}
 use Rattle.claim_gate.specs.Terms.{ForTerms, IsTermsOf, TermsParts}
 use Rattle.claim_gate.specs.Parts.{GateParts}
 use Rattle.claim_gate.specs.Shared.{IsLawful}
+use Rattle.crew.proofs.Passes.{worn_not_workers}
 use Rattle.crew.proofs.threads.run_after_new.Goals as goal
 
 -- a finished journal stays finished in each later state of the gate
@@ -28,4 +29,4 @@ returns-in-Ok-retire-clause-finished g c =
     (c.in-Ok-retire.ensures.fresh.terms ∙ c.in-Ok.ensures.seen.terms ∙ c.requires.terms) c.in-Ok-retire.ensures.fresh c.in-Ok-retire.ensures.lawful c.in-Ok.ensures.finished
 
 pub returns-clause-fault : goal.returns-clause-fault
-returns-clause-fault g c is = cc
+returns-clause-fault g c = worn_not_workers

@@ -1,7 +1,7 @@
 use Rattle.faults.specs.declared.run_fault.RunFault.TheVariants.{OutOfMemory}
-use Rattle.std.proofs.Common.{refl, rules}
+use Rattle.std.proofs.Common.{refl, rules, ◌∙◌}
 use Rattle.journal.specs.Leading.{leads_itself}
-use Rattle.crew.proofs.Passes.{not_for_workers}
+use Rattle.crew.proofs.Passes.{memory_not_stopped, memory_not_workers, not_for_workers}
 use Rattle.crew.proofs.threads.run_with.Goals as goal
 
 pub returns-then-not-may_have-clause-seen_back : goal.returns-then-not-may_have-clause-seen_back
@@ -17,10 +17,10 @@ pub returns-in_default-clause-seen_back : goal.returns-in_default-clause-seen_ba
 returns-in_default-clause-seen_back g c = search rules
 
 pub returns-in_default-clause-refused : goal.returns-in_default-clause-refused
-returns-in_default-clause-refused g c = not_for_workers c.args.workers OutOfMemory (c.if-not-may_have.ensures.0 refl) (λ other. cc)
+returns-in_default-clause-refused g c = not_for_workers c.args.workers OutOfMemory (c.if-not-may_have.ensures.0 refl) memory_not_workers
 
 pub returns-in_default-clause-stopped : goal.returns-in_default-clause-stopped
-returns-in_default-clause-stopped g c other = cc
+returns-in_default-clause-stopped g c other = absurd (memory_not_stopped other)
 
 pub returns-in_default-clause-ended : goal.returns-in_default-clause-ended
 returns-in_default-clause-ended g c other = search rules
@@ -52,3 +52,9 @@ returns-clause-stopped g c is = c.in-Err.ensures.leaves.stopped (c.least_with.en
 
 pub returns-clause-ended : goal.returns-clause-ended
 returns-clause-ended g c other = c.in-Err.ensures.ended
+
+pub in_threads-requires-clause-plan : goal.in_threads-requires-clause-plan
+in_threads-requires-clause-plan g c κs within = c.in-Ok.ensures ∙ c.plan.ensures.plan
+
+pub in_threads-requires-clause-workers : goal.in_threads-requires-clause-workers
+in_threads-requires-clause-workers g c κs within = c.if-not-may_have.ensures.0 refl

@@ -1,8 +1,8 @@
-use Rattle.std.proofs.Common.{inl, inr, ◌≡◌, ◌∙◌, ◌++◌, ◌∷◌, [], length, ap, rules, arith, length-append}
+use Rattle.std.proofs.Common.{inl, inr, ◌≡◌, ◌∙◌, ◌++◌, ◌∷◌, [], length, ap, refl, rules, arith, length-append}
 use Rattle.std.proofs.lemmas.List.Elements.{All-push, All-same}
 use Rattle.crew.specs.Sharing.{IsInWork}
 use Rattle.crew.proofs.HeldClaims.{all_in_work_stay}
-use Rattle.crew.proofs.Passes.{further, leaves_for_memory, leaves_later}
+use Rattle.crew.proofs.Passes.{further, leaves_for_memory, leaves_later, unchanged}
 use Rattle.crew.proofs.worker.gather.Goals as goal
 
 pub returns-in-NothingReady-clause-gathered : goal.returns-in-NothingReady-clause-gathered
@@ -55,3 +55,11 @@ returns-clause-goes_on g c = c.calls.invariant.0
 
 pub returns-clause-gathered : goal.returns-clause-gathered
 returns-clause-gathered g c = record { in_work = c.calls.invariant.2; whole = inl (search rules) }
+
+pub calls-init : goal.calls-init
+calls-init g c = (
+  unchanged (g.G.Gate.has_pass c.args.shared.now.gate.now) g.G.Gate.known c.args.pass c.args.pass c.requires.own refl,
+  c.requires.terms,
+  All-same (IsInWork (g.G.Gate.known c.args.pass).seen) c.args.jobs.items [] c.requires.none (λ k d within. absurd (omega (arith, within))),
+  ap length c.requires.none,
+)

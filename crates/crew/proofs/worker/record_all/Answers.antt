@@ -1,9 +1,9 @@
-use Rattle.std.proofs.Common.{◌≡◌, ◌∷◌, ◌++◌, [], sym, ap, ◌∙◌, List, length, append_assoc, append-nil, refl, arith}
+use Rattle.std.proofs.Common.{◌≡◌, ◌∷◌, ◌++◌, [], sym, ap, ◌∙◌, List, length, append_assoc, append-nil, refl, arith, rules}
 use Rattle.std.proofs.lemmas.List.Elements.{All-head, All-push, All-same, All-tail}
 use Rattle.std.specs.Vec.Iter.{into_iter_items}
 use Rattle.crew.specs.Sharing.{IsRecordedIn, IsSettledIn}
 use Rattle.crew.proofs.HeldClaims.{all_recorded_stay, all_settled_stay}
-use Rattle.crew.proofs.Passes.{further, leaves_later}
+use Rattle.crew.proofs.Passes.{further, leaves_later, unchanged}
 use Rattle.crew.proofs.worker.record_all.Goals as goal
 
 nothing_left : {X : Type 0} (xs : List X) → length xs ≡ 0 → xs ≡ []
@@ -53,3 +53,17 @@ returns-clause-recorded g c =
     let done = c.loop-one.invariant.3 in
     let all : done ≡ c.args.settled.items = sym (append-nil done) ∙ ap (λ xs. done ++ xs) (sym none) ∙ c.loop-one.invariant.4 in
     All-same (IsRecordedIn (g.G.Gate.known c.loop-one.pass).seen) c.args.settled.items done (sym all) c.loop-one.invariant.5
+
+pub loop-one-init : goal.loop-one-init
+loop-one-init g c =
+    let seen = (g.G.Gate.known c.args.pass).seen in
+    let items = into_iter_items c.into_iter-one-iterator.result in
+    let gives = c.into_iter-one-iterator.ensures.into_iter_gives in (
+      unchanged (g.G.Gate.has_pass c.args.shared.now.gate.now) g.G.Gate.known c.args.pass c.args.pass c.requires.own refl,
+      c.requires.terms,
+      All-same (IsSettledIn seen) items c.args.settled.items gives.0 c.requires.settled,
+      [],
+      gives.0,
+      λ k d within. absurd (omega (arith, within)),
+      search rules,
+    )

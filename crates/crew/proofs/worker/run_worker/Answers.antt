@@ -1,4 +1,5 @@
-use Rattle.std.proofs.Common.{◌≡◌, map, ap, refl, subst, ◌∙◌, sym}
+use Rattle.std.proofs.Common.{◌≡◌, [], map, ap, refl, subst, ◌∙◌, sym, arith}
+use Rattle.std.proofs.lemmas.Bool.{false≢true}
 use Rattle.std.proofs.lemmas.List.Elements.{All-same}
 use Rattle.claim_gate.specs.Terms.{IsTermsOf}
 use Rattle.crew.specs.Sharing.{IsSettledIn, settled_by}
@@ -65,3 +66,20 @@ returns-in_default-decide_all-clause-leaves g c =
     let known = g.G.Gate.known in
     let back = c.in-Ok-take_turn.onward.pass in
     leaves_for_memory own known g.G.Gate.is_worn c.args.pass back (further own known c.args.pass c.loop.pass back c.loop.invariant.2 c.in-Ok-take_turn.ensures.goes_on)
+
+pub loop-init : goal.loop-init
+loop-init g c =
+    let P = IsSettledIn (g.G.Gate.known c.args.pass).seen in (
+      tt,
+      tt,
+      unchanged (g.G.Gate.has_pass c.args.shared.now.gate.now) g.G.Gate.known c.args.pass c.args.pass c.requires.own refl,
+      c.requires.terms,
+      c.in-Ok.ensures ∙ c.requires.plan,
+      All-same P c.new-settled.result.items [] c.new-settled.ensures.items (λ k d within. absurd (omega (arith, within))),
+    )
+
+pub decide_all-requires-clause-roles : goal.decide_all-requires-clause-roles
+decide_all-requires-clause-roles g c = rw c.loop.invariant.4 c.plan-plan.ensures.terms.roles
+
+pub unreachable-requires : goal.unreachable-requires
+unreachable-requires g c = false≢true c.in-None.ensures.steps

@@ -11,3 +11,6 @@ returns-clause-settled c =
     let settled : DecidedJob = record { job = job; outcome = outcome } in
     let decided = rw c.as_claim.ensures at c.in_ok-outcome.ensures.decided in
     settled_is plan plan job outcome settled refl (c.in_ok-outcome-2.ensures.value ∙ decided) refl
+
+pub decide-requires-clause-fields : goal.decide-requires-clause-fields
+decide-requires-clause-fields c = rw c.as_claim.ensures c.requires.fields

@@ -1,4 +1,4 @@
-use Rattle.std.proofs.Common.{◌≤◌, length, ◌∙◌}
+use Rattle.std.proofs.Common.{◌≤◌, length, refl, ◌∙◌}
 use Rattle.journal.specs.Lawful.{Finished}
 use Rattle.claim_gate.specs.Terms.{ForTerms}
 use Rattle.crew.proofs.Passes.{further, further_where_ok, leaves_later_where_err, unchanged, under_known}
@@ -65,3 +65,9 @@ returns g c =
       leaves = leaves_later_where_err own known g.G.Gate.is_worn c.captures.pass c.threads.own c.run_thread-2.result c.threads.invariant.0 c.run_thread-2.ensures.leaves;
       ended = c.run_thread-2.ensures.ended;
     }
+
+pub threads-init : goal.threads-init
+threads-init g c = (
+  unchanged (g.G.Gate.has_pass c.captures.shared.now.gate.now) g.G.Gate.known c.captures.pass c.captures.pass c.requires.0 refl,
+  c.requires.1,
+)

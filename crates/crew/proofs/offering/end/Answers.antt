@@ -1,7 +1,7 @@
 use Rattle.std.proofs.Common.{refl, ◌∙◌, arith}
 use Rattle.crew.proofs.Passes.{after_section, leaves_for_memory, section_later, unchanged, worn_later}
 use Rattle.crew.proofs.Sections.{already_past, closed_shut, ends_past, no_fewer, none_lacks, shut_past, stopped_shut}
-use Rattle.crew.proofs.intake.end.Goals as goal
+use Rattle.crew.proofs.offering.end.Goals as goal
 
 pub unreachable-requires : goal.unreachable-requires
 unreachable-requires g c =

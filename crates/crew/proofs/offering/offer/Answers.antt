@@ -1,8 +1,10 @@
-use Rattle.std.proofs.Common.{refl, ◌∙◌, arith}
+use Rattle.std.proofs.Common.{refl, sym, subst, ◌∙◌, arith}
 use Rattle.crew.proofs.Passes.{after_section, leaves_for_memory, section_later, unchanged, worn_later}
 use Rattle.crew.proofs.Sections.{accepts_on, closed_to, goes_on, no_fewer, stopped_to}
-use Rattle.claim_gate.proofs.Sharing.{turn_stays}
-use Rattle.crew.proofs.intake.offer.Goals as goal
+use Rattle.claim_gate.proofs.Sharing.{due_stays}
+use Rattle.claim_gate.specs.Shared.{IsDueAt}
+use Rattle.claim_gate.specs.declared.offer.Offer.{Offer}
+use Rattle.crew.proofs.offering.offer.Goals as goal
 
 pub tries-preserved : goal.tries-preserved
 tries-preserved g c =
@@ -72,6 +74,8 @@ offer-requires-clause-filed g c = rw (c.tries.invariant.1, c.tries.invariant.2) 
 pub returns-clause-leaves : goal.returns-clause-leaves
 returns-clause-leaves g c = leaves_for_memory (g.G.Gate.has_pass c.args.shared.now.gate.now) g.G.Gate.known g.G.Gate.is_worn c.args.pass c.tries.pass c.tries.invariant.0
 
-pub offer-requires-clause-in_order : goal.offer-requires-clause-in_order
-offer-requires-clause-in_order g c =
-    rw c.tries.invariant.2 (turn_stays (g.G.Gate.known c.args.pass).seen (g.G.Gate.known c.tries.pass).seen c.args.offer.provider c.tries.invariant.0.seen c.requires.in_order)
+pub offer-requires-clause-due : goal.offer-requires-clause-due
+offer-requires-clause-due g c =
+    let seen = (g.G.Gate.known c.tries.pass).seen in
+    let due = due_stays (g.G.Gate.known c.args.pass).seen seen c.args.offer.provider c.args.offer.place c.tries.invariant.0.seen c.requires.due in
+    subst (λ (o : Offer). IsDueAt seen o.provider o.place) (sym c.tries.invariant.2) due

@@ -1,0 +1,49 @@
+use Rattle.std.proofs.Common.{refl, arith}
+use Rattle.crew.proofs.Passes.{further, leaves_later, unchanged}
+use Rattle.crew.proofs.acceptor.offer_turn.Goals as goal
+
+pub offers-init : goal.offers-init
+offers-init g c = (
+  unchanged (g.G.Gate.has_pass c.args.shared.now.gate.now) g.G.Gate.known c.args.pass c.args.pass c.requires.own refl,
+  c.requires.at,
+  omega arith,
+)
+
+pub offer_next-requires-clause-own : goal.offer_next-requires-clause-own
+offer_next-requires-clause-own g c κs within = c.offers.invariant.0.own
+
+pub offer_next-requires-clause-at : goal.offer_next-requires-clause-at
+offer_next-requires-clause-at g c κs within = c.offers.invariant.1
+
+pub returns-in-Err-clause-leaves : goal.returns-in-Err-clause-leaves
+returns-in-Err-clause-leaves g c =
+    leaves_later (g.G.Gate.has_pass c.args.shared.now.gate.now) g.G.Gate.known g.G.Gate.is_worn c.args.pass c.offers.pass c.in-Err.exit c.offers.invariant.0 c.in-Err.ensures.leaves
+
+pub offers-preserved : goal.offers-preserved
+offers-preserved g c =
+    let on = c.in-Ok.ensures in
+    let offered = rw c.in-NextClaim.is at on.step in (
+      further (g.G.Gate.has_pass c.args.shared.now.gate.now) g.G.Gate.known c.args.pass c.offers.pass c.in-Ok.onward.pass c.offers.invariant.0 on.goes_on,
+      offered.at,
+      omega (arith, offered.fewer, c.offers.invariant.2),
+    )
+
+pub returns-in-EndProviders-clause-goes_on : goal.returns-in-EndProviders-clause-goes_on
+returns-in-EndProviders-clause-goes_on g c =
+    further (g.G.Gate.has_pass c.args.shared.now.gate.now) g.G.Gate.known c.args.pass c.offers.pass c.in-Ok.onward.pass c.offers.invariant.0 c.in-Ok.ensures.goes_on
+
+pub returns-in-EndProviders-clause-step : goal.returns-in-EndProviders-clause-step
+returns-in-EndProviders-clause-step g c = rw c.in-EndProviders.is at c.in-Ok.ensures.step
+
+pub returns-in-Leave-clause-goes_on : goal.returns-in-Leave-clause-goes_on
+returns-in-Leave-clause-goes_on g c =
+    further (g.G.Gate.has_pass c.args.shared.now.gate.now) g.G.Gate.known c.args.pass c.offers.pass c.in-Ok.onward.pass c.offers.invariant.0 c.in-Ok.ensures.goes_on
+
+pub returns-in-Leave-clause-step : goal.returns-in-Leave-clause-step
+returns-in-Leave-clause-step g c = rw c.in-Leave.is at c.in-Ok.ensures.step
+
+pub returns-clause-goes_on : goal.returns-clause-goes_on
+returns-clause-goes_on g c = c.offers.invariant.0
+
+pub returns-clause-step : goal.returns-clause-step
+returns-clause-step g c = record { at = c.offers.invariant.1; fewer = omega (arith, c.offers.invariant.2) }

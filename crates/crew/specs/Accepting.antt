@@ -1,0 +1,36 @@
+-- What the acceptor has offered of the claims of all files.
+use Rattle.std.specs.Prelude.{◌≡◌, ◌<◌, ◌≤◌, ℕ, length, true}
+use Rattle.claim_gate.specs.Parts.{GateParts}
+use Rattle.claim_gate.specs.Replies.{HasClaims}
+use Rattle.claim_gate.specs.Terms.{ForTerms, TermsParts}
+use Rattle.ordered_claims.specs.OrderedParts.{HasAcceptedGiven, OrderedParts, given_of}
+use Rattle.crew.specs.Sharing.{is_past, is_shut}
+use Rattle.crew.specs.declared.acceptor.AcceptorStep.{AcceptorStep}
+use Rattle.crew.specs.declared.acceptor.AcceptorStep.TheVariants.{NextClaim, EndProviders, Leave}
+
+-- no more claims are accepted of the providers up to this one
+abbrev pub ArePast : GateParts → ℕ → Type 0
+ArePast gate last = (provider : ℕ) → 1 ≤ provider → provider ≤ last → is_past gate provider ≡ true
+
+-- the acceptor is between two claims: all claims that its reader has given are accepted
+pub record IsAtClaim (terms : TermsParts) (seen : GateParts) (claims : OrderedParts) : Type 0 where
+  pub seen_terms : seen.terms ≡ terms
+  pub of_terms : claims.terms ≡ terms
+  pub accepted : HasAcceptedGiven claims seen.journal
+
+-- the acceptor is between two claims, with fewer records left than before
+pub record HasOffered (terms : TermsParts) (seen : GateParts) (old new : OrderedParts) : Type 0 where
+  pub at : IsAtClaim terms seen new
+  pub fewer : new.left < old.left
+
+-- the acceptor is after the last claim of all files
+pub record HasOfferedAll (terms : TermsParts) (seen : GateParts) (claims : OrderedParts) : Type 0 where
+  pub at : IsAtClaim terms seen claims
+  pub whole : (provider : ℕ) → 1 ≤ provider → provider ≤ length terms.files → ForTerms terms (λ T. HasClaims T provider (given_of claims provider))
+
+-- the next step of the acceptor is right: it ends the providers only after the last claim, and it leaves only a gate that
+-- accepts no more claims
+abbrev pub IsAcceptorStep : TermsParts → GateParts → OrderedParts → OrderedParts → AcceptorStep → Type 0
+IsAcceptorStep terms seen old new NextClaim = HasOffered terms seen old new
+IsAcceptorStep terms seen old new EndProviders = HasOfferedAll terms seen new
+IsAcceptorStep terms seen old new Leave = is_shut seen ≡ true
