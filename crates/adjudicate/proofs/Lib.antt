@@ -1,3 +1,4 @@
+pub mod Ordered
 pub mod Piecewise
 pub mod Refusals
 pub mod Remittances

@@ -140,6 +140,24 @@ failed_by_terms failed fault (stop.Terms same) made = refl
 failed_by_terms failed fault (stop.Value value.NoMemory) made = refl
 failed_by_terms failed fault _ made = absurd made
 
+-- a fault of the run leaves the state of the writer unchanged
+pub failed_by_run : (failed : Bool) (fault : RunFault) (s : Stop) → IsStopOfRun fault s → failed ≡ failed_after failed s
+failed_by_run failed fault (stop.Run same) made = refl
+failed_by_run failed fault (stop.Value value.NoMemory) made = refl
+failed_by_run failed fault _ made = absurd made
+
+-- before a fault of the plan nothing is written, and the state of the writer is unchanged
+pub kept_by_plan : (texts : RunTexts) (contents : Option (List ℕ)) (fault : PlanFault) (s : Stop) → IsStopOfPlan fault s
+    → WritesRemittanceUntil texts contents contents s
+kept_by_plan texts contents fault (stop.Value (value.Plan same)) made = Keeps-refl contents
+kept_by_plan texts contents fault (stop.Value value.NoMemory) made = inl (Keeps-refl contents)
+kept_by_plan texts contents fault _ made = absurd made
+
+pub failed_by_plan : (failed : Bool) (fault : PlanFault) (s : Stop) → IsStopOfPlan fault s → failed ≡ failed_after failed s
+failed_by_plan failed fault (stop.Value (value.Plan same)) made = refl
+failed_by_plan failed fault (stop.Value value.NoMemory) made = refl
+failed_by_plan failed fault _ made = absurd made
+
 -- the counts are those of the run whose report is written
 pub counts_written : (parts : TermsParts) (J : List Event) → IsFinishedOver parts J → (old new : Option (List ℕ)) (counts : Option RunCounts) → WritesReport parts J old new
     → IfSome counts (AreRunCounts parts J) → IfSome counts (WritesCounted parts old new)

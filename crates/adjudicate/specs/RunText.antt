@@ -1,12 +1,15 @@
 -- What the command `run` writes: the remittance of one journal.
-use Rattle.std.specs.Prelude.{◌≡◌, ℕ, List, Option, length, take}
+use Rattle.std.specs.Prelude.{◌≡◌, ◌≢◌, ℕ, List, Option, length, take}
 use Rattle.std.specs.Io.KnownBytes.{Appends}
 use Rattle.tables.specs.Plan.{PlanParts}
 use Rattle.dtable.specs.PlanFile.{IsPlanText}
 use Rattle.journal.specs.declared.event.Event.{Event}
+use Rattle.journal.specs.declared.order.Order.{Order}
+use Rattle.journal.specs.declared.order.Order.TheVariants.{Any}
 use Rattle.journal.specs.Lawful.{Finished}
 use Rattle.journal.specs.Terms.{Terms}
 use Rattle.claim_gate.specs.Terms.{AreTermsOf, IsFinishedOver, IsTermsOf, TermsParts, text_in, texts_of}
+use Rattle.orders.specs.Remittance.{IsOrderedRemittanceOf}
 use Rattle.remit.specs.Counts.{AreRunCounts}
 use Rattle.remit.specs.Report.{IsReport}
 use Rattle.remit.specs.Writing.{WritesReport}
@@ -53,6 +56,17 @@ pub record IsRemittance (texts : RunTexts) (bytes : List ℕ) : Type 0 where
   pub parts : TermsParts
   pub over : AreTermsOfTexts texts parts
   pub is_remittance : IsRemittanceOf parts bytes
+
+-- the bytes are a remittance of the texts in this order of acceptance
+pub record IsOrderedRemittance (order : Order) (texts : RunTexts) (bytes : List ℕ) : Type 0 where
+  pub parts : TermsParts
+  pub over : AreTermsOfTexts texts parts
+  pub is_remittance : IsOrderedRemittanceOf order parts bytes
+
+-- two remittances of the same texts in the same order are equal
+abbrev pub TextsHaveOneRemittance : Type 0
+TextsHaveOneRemittance = (order : Order) (texts : RunTexts) (bytes others : List ℕ) → order ≢ Any
+    → IsOrderedRemittance order texts bytes → IsOrderedRemittance order texts others → bytes ≡ others
 
 -- the writer has received exactly the first `written` bytes of a remittance of these terms: there is one journal, which is finished over
 -- the terms, and the bytes are the first ones of every remittance of it. It is not refutable that it has a remittance

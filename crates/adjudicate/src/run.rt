@@ -1,18 +1,20 @@
 //! The command `run`: it settles the claims of providers' files by a plan's tables, and writes
 //! their remittance.
 
-ghost use Rattle.std.specs.Prelude.{◌≡◌, IfOk, IfErr, IfSome, OnOk};
+ghost use Rattle.std.specs.Prelude.{◌≡◌, ◌≢◌, IfOk, IfErr, IfSome, OnOk};
 ghost use Rattle.fixpoint.specs.Out.{writer_of, has_failed};
 ghost use Rattle.crew.specs.Workers.{IsWorkerCount};
 ghost use Rattle.dtable.specs.PlanFile.{IsPlanText};
 ghost use Rattle.evaluation.specs.Stop.{WritesText};
-ghost use Rattle.adjudicate.specs.RunText.{IsCountedRemittance, IsRemittance, IsRemittanceOf, WritesCounted, run_texts};
+ghost use Rattle.journal.specs.declared.order.Order.TheVariants.{Any};
+ghost use Rattle.orders.specs.Remittance.{IsOrderedRemittanceOf};
+ghost use Rattle.adjudicate.specs.RunText.{IsCountedRemittance, IsOrderedRemittance, IsRemittance, IsRemittanceOf, WritesCounted, run_texts};
 ghost use Rattle.adjudicate.specs.RunStop.{IsRunReason, StopsRemittance, WritesRemittanceUntil};
 ghost use Rattle.adjudicate.specs.Stop.{failed_after};
 
 use crate::counting::Counting;
 use crate::stop::Stop;
-use claim_gate::{Terms, claim_lists_exist};
+use claim_gate::{Order, Terms, claim_lists_exist};
 use dtable::read_plan;
 use fixpoint::Out;
 use remit::write_report_by_threads;
@@ -66,18 +68,26 @@ pub fn do_run<R: Threads + Wait + Sync + AllocGlobal, W: Write>(
     ensures failed { IfErr result (λ stop.
         has_failed out.new ≡ failed_after (has_failed out.old) stop) }
 {
-    do_counted_run(rt, input, out, &mut Counting::nothing())
+    do_counted_run(rt, input, Order::Any, out, &mut Counting::nothing())
 }
 
-/// Settles the claims as `do_run` does, and counts the records of the remittance if `counting`
-/// requests it. The counts are missing if memory runs out for them, which is not an error.
+/// Settles the claims as `do_run` does, and accepts them in the given order. If this is not
+/// `Order::Any`, the texts, the cutoff and the order determine the remittance
+/// (`texts_have_one_remittance`), whatever the number of workers.
+///
+/// The records of the remittance are counted if `counting` requests it. The counts are missing if
+/// memory runs out for them, which is not an error.
 pub fn do_counted_run<R: Threads + Wait + Sync + AllocGlobal, W: Write>(
     rt: &R,
     input: RunInput,
+    order: Order,
     out: &mut Out<W>,
     counting: &mut Counting,
 ) -> Result<(), Stop>
     ensures written { OnOk result (WritesText (IsRemittance (run_texts input.entry))
+        (W.contents (writer_of out.old)) (W.contents (writer_of out.new))) }
+    ensures ordered { OnOk result (order ≢ Any
+        → WritesText (IsOrderedRemittance order (run_texts input.entry))
         (W.contents (writer_of out.old)) (W.contents (writer_of out.new))) }
     ensures counted { OnOk result (IfSome counting.new.counts
         (IsCountedRemittance (run_texts input.entry)
@@ -91,7 +101,7 @@ pub fn do_counted_run<R: Threads + Wait + Sync + AllocGlobal, W: Write>(
         has_failed out.new ≡ failed_after (has_failed out.old) stop) }
 {
     let plan = read_plan(rt.alloc(), input.plan)?;
-    let done = run_plan(rt, &plan, input, out, counting);
+    let done = run_plan(rt, &plan, input, order, out, counting);
     drop(plan);
     done
 }
@@ -101,11 +111,15 @@ fn run_plan<R: Threads + Wait + Sync + AllocGlobal, W: Write>(
     rt: &R,
     plan: &Plan,
     input: RunInput,
+    order: Order,
     out: &mut Out<W>,
     counting: &mut Counting,
 ) -> Result<(), Stop>
     requires spelled { IsPlanText (run_texts input).plan plan.now }
     ensures written { OnOk result (WritesText (IsRemittance (run_texts input.entry))
+        (W.contents (writer_of out.old)) (W.contents (writer_of out.new))) }
+    ensures ordered { OnOk result (order ≢ Any
+        → WritesText (IsOrderedRemittance order (run_texts input.entry))
         (W.contents (writer_of out.old)) (W.contents (writer_of out.new))) }
     ensures counted { OnOk result (IfSome counting.new.counts
         (IsCountedRemittance (run_texts input.entry)
@@ -118,7 +132,14 @@ fn run_plan<R: Threads + Wait + Sync + AllocGlobal, W: Write>(
     ensures failed { IfErr result (λ stop.
         has_failed out.new ≡ failed_after (has_failed out.old) stop) }
 {
-    let terms = Terms::new(rt.alloc(), plan, input.files, input.balances, input.cutoff)?;
+    let terms = Terms::with_order(
+        rt.alloc(),
+        plan,
+        input.files,
+        input.balances,
+        input.cutoff,
+        order,
+    )?;
     let done = write_remittance(rt, &terms, input.workers, out, counting);
     drop(terms);
     done
@@ -133,6 +154,9 @@ fn write_remittance<R: Threads + Wait + Sync + AllocGlobal, W: Write>(
     counting: &mut Counting,
 ) -> Result<(), Stop>
     ensures written { OnOk result (WritesText (IsRemittanceOf terms.now)
+        (W.contents (writer_of out.old)) (W.contents (writer_of out.new))) }
+    ensures ordered { OnOk result (terms.now.order ≢ Any
+        → WritesText (IsOrderedRemittanceOf terms.now.order terms.now)
         (W.contents (writer_of out.old)) (W.contents (writer_of out.new))) }
     ensures counted { OnOk result (IfSome counting.new.counts (WritesCounted terms.now
         (W.contents (writer_of out.old)) (W.contents (writer_of out.new)))) }

@@ -1,5 +1,6 @@
 use Rattle.std.proofs.lemmas.Result.{err_from_is_err_and}
 use Rattle.adjudicate.specs.RunText.{AreTermsOfTexts, run_texts}
+use Rattle.adjudicate.proofs.Ordered.{ordered_over}
 use Rattle.adjudicate.proofs.Remittances.{counted_over, failed_by_terms, kept_by_terms, reason_of_terms, reasons_over, stopped_over, whole_over}
 use Rattle.adjudicate.proofs.run.run_plan.Goals as goal
 
@@ -26,6 +27,15 @@ returns-clause-written g c =
       are_terms = c.in_ok-terms.ensures.ok;
     } in
     whole_over (run_texts c.args.input) c.in_ok-terms.terms over _ _ c.write_remittance-done.result c.write_remittance-done.ensures.written
+
+pub returns-clause-ordered : goal.returns-clause-ordered
+returns-clause-ordered g c =
+    let over : AreTermsOfTexts (run_texts c.args.input) c.in_ok-terms.terms = record {
+      plan = c.args.plan.now;
+      spelled = c.requires.spelled;
+      are_terms = c.in_ok-terms.ensures.ok;
+    } in
+    ordered_over (run_texts c.args.input) c.in_ok-terms.terms c.args.order over c.in_ok-terms.ensures.order _ _ c.write_remittance-done.result c.write_remittance-done.ensures.ordered
 
 pub returns-clause-counted : goal.returns-clause-counted
 returns-clause-counted g c =
