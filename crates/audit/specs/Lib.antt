@@ -1,0 +1,4 @@
+pub mod Settling
+pub mod RecordEnds
+pub mod Differing
+pub mod Audits
