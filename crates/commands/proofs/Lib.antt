@@ -1,3 +1,4 @@
 pub mod Ends
 pub mod Statuses
 pub mod Named
+pub mod Ordered

@@ -1,12 +1,12 @@
 -- The exit statuses of the commands, from those of their parts.
-use Rattle.std.proofs.Common.{◌≡◌, ◌≢◌, inl, inr}
+use Rattle.std.proofs.Common.{◌≡◌, ◌≢◌, ℕ, List, inl, inr}
 use Rattle.clap.specs.declared.parser.matches.ArgMatches.{ArgMatches}
 use Rattle.console.specs.declared.exit_status.ExitStatus.{ExitStatus}
 use Rattle.console.specs.declared.exit_status.ExitStatus.TheVariants.{Done, Refused}
 use Rattle.value_command.specs.Texts.{Whole}
 use Rattle.value_command.proofs.Ends.{unjudged_not_done, unjudged_not_refused}
-use Rattle.commands.specs.Ends.{HasRemittance, IsUnreadStatus, IsUnusedStatus, RunIsDone, RunIsRefused, IsRefusedRun}
-use Rattle.commands.specs.Texts.{HasNamedTexts}
+use Rattle.commands.specs.Ends.{AuditIsDone, AuditIsRefused, HasRemittance, IsAudited, IsRefusedAudit, IsUnreadStatus, IsUnusedStatus, RunIsDone, RunIsRefused, IsRefusedRun}
+use Rattle.commands.specs.Texts.{HasNamedTexts, IsNamedRemittance}
 use Rattle.commands.specs.Words.{IsStrict}
 use Rattle.commands.specs.declared.run.Texts.{Texts}
 
@@ -38,3 +38,19 @@ unread_not_done words status (inr (refused, strict)) = λ is_done. cc (refused, 
 pub unread_refused : (whole : Whole) (words : ArgMatches) (status : ExitStatus) → IsUnreadStatus words status → status ≡ Refused → RunIsRefused whole words status
 unread_refused whole words status (inl unjudged) is_refused = absurd (unjudged_not_refused status unjudged is_refused)
 unread_refused whole words status (inr (refused, strict)) is_refused = inr strict
+
+-- `audit` over the named texts and the named remittance
+pub audit_done : (whole : Whole) (words : ArgMatches) (texts : Texts) (remittance : List ℕ) (status : ExitStatus) → HasNamedTexts whole words texts → IsNamedRemittance whole words remittance
+    → (status ≡ Done → IsAudited words texts remittance) → status ≡ Done → AuditIsDone whole words
+audit_done whole words texts remittance status named named_remittance done is_done =
+    record { texts = texts; named = named; remittance = remittance; named_remittance = named_remittance; audited = done is_done }
+
+pub audit_refused : (whole : Whole) (words : ArgMatches) (texts : Texts) (remittance : List ℕ) (status : ExitStatus) → HasNamedTexts whole words texts → IsNamedRemittance whole words remittance
+    → (status ≡ Refused → IsRefusedAudit words texts remittance status) → status ≡ Refused → AuditIsRefused whole words status
+audit_refused whole words texts remittance status named named_remittance refused is_refused =
+    inl (record { texts = texts; named = named; remittance = remittance; named_remittance = named_remittance; refused = refused is_refused })
+
+-- an audit that has not read all of its texts is refused under `--strict` alone
+pub unread_audit_refused : (whole : Whole) (words : ArgMatches) (status : ExitStatus) → IsUnreadStatus words status → status ≡ Refused → AuditIsRefused whole words status
+unread_audit_refused whole words status (inl unjudged) is_refused = absurd (unjudged_not_refused status unjudged is_refused)
+unread_audit_refused whole words status (inr (refused, strict)) is_refused = inr strict

@@ -1,22 +1,25 @@
 -- The meaning of the exit statuses of the commands.
-use Rattle.std.specs.Prelude.{◌≡◌, ◌⊎◌, ℕ, List, Option, Result, Ok, Err}
+use Rattle.std.specs.Prelude.{◌≡◌, ◌≢◌, ◌⊎◌, ℕ, List, Option, Result, Ok, Err}
 use Rattle.clap.specs.declared.error.Error.{Error}
 use Rattle.clap.specs.declared.parser.matches.ArgMatches.{ArgMatches}
 use Rattle.console.specs.declared.exit_status.ExitStatus.{ExitStatus}
 use Rattle.console.specs.declared.exit_status.ExitStatus.TheVariants.{Refused}
-use Rattle.console.specs.declared.names.TheConstants.{CHECK, RUN, VALUE}
+use Rattle.console.specs.declared.names.TheConstants.{AUDIT, CHECK, RUN, VALUE}
 use Rattle.console.specs.ExitStatus.{IsUnjudged}
 use Rattle.value_command.specs.Ends.{Ends, HasText, IsHelp, IsStatusOf, ValueIsDone, ValueIsRefused}
 use Rattle.value_command.specs.Texts.{IsNamedPlan, Whole}
 use Rattle.adjudicate.specs.declared.check.report.Findings.{Findings}
 use Rattle.adjudicate.specs.declared.stop.Stop.{Stop}
 use Rattle.adjudicate.specs.RunStop.{IsRunReason}
-use Rattle.adjudicate.specs.RunText.{IsRemittance}
+use Rattle.journal.specs.declared.order.Order.{Order}
+use Rattle.journal.specs.declared.order.Order.TheVariants.{Any}
+use Rattle.adjudicate.specs.RunText.{IsOrderedRemittance, IsRemittance, RunTexts}
 use Rattle.adjudicate.specs.Stop.{IsPlanReason, status_of}
 use Rattle.adjudicate.specs.Findings.{IsReportedText}
 use Rattle.commands.specs.declared.run.Texts.{Texts}
-use Rattle.commands.specs.Texts.{HasNamedTexts, texts_at}
-use Rattle.commands.specs.Words.{IsCutoff, IsStrict, IsFindings, IsWorkers}
+use Rattle.audit.specs.Audits.{IsAuditReason}
+use Rattle.commands.specs.Texts.{HasNamedTexts, IsNamedRemittance, texts_at}
+use Rattle.commands.specs.Words.{IsCutoff, IsStrict, IsFindings, IsOrder, IsWorkers}
 
 -- some error has this reason, and this is its exit status
 abbrev pub IsStatusOfRefusal : (Stop → Type 0) → ExitStatus → Type 0
@@ -40,11 +43,18 @@ pub record PlanIsRefused (whole : Whole) (words : ArgMatches) (status : ExitStat
 abbrev pub CheckIsRefused : Whole → ArgMatches → ExitStatus → Type 0
 CheckIsRefused whole words status = PlanIsRefused whole words status ⊎ IsStrict words
 
--- these texts have a remittance at the cutoff of the command line
+-- the bytes are a remittance of the texts, and where an order is asked for, the one in this order
+pub record IsRemittanceIn (order : Order) (texts : RunTexts) (bytes : List ℕ) : Type 0 where
+  pub whole : IsRemittance texts bytes
+  pub ordered : order ≢ Any → IsOrderedRemittance order texts bytes
+
+-- these texts have a remittance at the cutoff and in the order of the command line
 pub record HasRemittance (words : ArgMatches) (texts : Texts) : Type 0 where
   pub cutoff : Option ℕ
   pub asked : IsCutoff words cutoff
-  pub has_text : HasText (IsRemittance (texts_at texts cutoff))
+  pub order : Order
+  pub ordered : IsOrder words order
+  pub has_text : HasText (IsRemittanceIn order (texts_at texts cutoff))
 
 -- this is the exit status of an error of a run of these texts, with the cutoff and the workers of the command line
 pub record IsRefusedRun (words : ArgMatches) (texts : Texts) (status : ExitStatus) : Type 0 where
@@ -78,16 +88,55 @@ pub record TextsAreRefused (whole : Whole) (words : ArgMatches) (status : ExitSt
 abbrev pub RunIsRefused : Whole → ArgMatches → ExitStatus → Type 0
 RunIsRefused whole words status = TextsAreRefused whole words status ⊎ IsStrict words
 
+-- the bytes are the remittance of these texts, at the cutoff and in the order of the command line
+pub record IsAudited (words : ArgMatches) (texts : Texts) (remittance : List ℕ) : Type 0 where
+  pub cutoff : Option ℕ
+  pub asked : IsCutoff words cutoff
+  pub order : Order
+  pub ordered : IsOrder words order
+  pub is_remittance : IsOrderedRemittance order (texts_at texts cutoff) remittance
+
+-- the bytes are not the remittance of these texts, at the cutoff and in the order of the command line, or this is the exit status of an
+-- error of an audit of them
+pub record IsRefusedAudit (words : ArgMatches) (texts : Texts) (remittance : List ℕ) (status : ExitStatus) : Type 0 where
+  pub cutoff : Option ℕ
+  pub asked : IsCutoff words cutoff
+  pub order : Order
+  pub ordered : IsOrder words order
+  pub refused : (¬ IsOrderedRemittance order (texts_at texts cutoff) remittance) ⊎ IsStatusOfRefusal (IsAuditReason (texts_at texts cutoff)) status
+
+-- `audit` can end with `Done`: the named remittance is the one of the named texts
+pub record AuditIsDone (whole : Whole) (words : ArgMatches) : Type 0 where
+  pub texts : Texts
+  pub named : HasNamedTexts whole words texts
+  pub remittance : List ℕ
+  pub named_remittance : IsNamedRemittance whole words remittance
+  pub audited : IsAudited words texts remittance
+
+-- the named remittance is not the one of the named texts, or this is the exit status of an error of an audit of them
+pub record TextsAreRefusedInAudit (whole : Whole) (words : ArgMatches) (status : ExitStatus) : Type 0 where
+  pub texts : Texts
+  pub named : HasNamedTexts whole words texts
+  pub remittance : List ℕ
+  pub named_remittance : IsNamedRemittance whole words remittance
+  pub refused : IsRefusedAudit words texts remittance status
+
+-- `audit` can end with this status; unknown keys may be errors
+abbrev pub AuditIsRefused : Whole → ArgMatches → ExitStatus → Type 0
+AuditIsRefused whole words status = TextsAreRefusedInAudit whole words status ⊎ IsStrict words
+
 -- the named command can end with `Done`
 abbrev pub CommandIsDone : Whole → ArgMatches → Type 0
 CommandIsDone whole matches =
-    Ends matches VALUE.now (ValueIsDone whole) ⊎ (Ends matches CHECK.now (CheckIsDone whole) ⊎ Ends matches RUN.now (RunIsDone whole))
+    Ends matches VALUE.now (ValueIsDone whole)
+    ⊎ (Ends matches CHECK.now (CheckIsDone whole) ⊎ (Ends matches RUN.now (RunIsDone whole) ⊎ Ends matches AUDIT.now (AuditIsDone whole)))
 
 -- the named command can end with this status of an error
 abbrev pub CommandIsRefused : Whole → ArgMatches → ExitStatus → Type 0
 CommandIsRefused whole matches status =
     Ends matches VALUE.now (λ words. ValueIsRefused whole words status)
-    ⊎ (Ends matches CHECK.now (λ words. CheckIsRefused whole words status) ⊎ Ends matches RUN.now (λ words. RunIsRefused whole words status))
+    ⊎ (Ends matches CHECK.now (λ words. CheckIsRefused whole words status)
+    ⊎ (Ends matches RUN.now (λ words. RunIsRefused whole words status) ⊎ Ends matches AUDIT.now (λ words. AuditIsRefused whole words status)))
 
 -- the command line names a command that can end with `Done`, or it asks for help or the version
 abbrev pub IsDone : Whole → Result ArgMatches Error → Type 0

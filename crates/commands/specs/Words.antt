@@ -4,7 +4,10 @@ use Rattle.std.specs.Option.{SomeIff}
 use Rattle.std.specs.Str.Parse.{IsNumeral, digits_value, without_leading_plus}
 use Rattle.clap.specs.Words.{found_of, one_text}
 use Rattle.clap.specs.declared.parser.matches.ArgMatches.{ArgMatches}
-use Rattle.console.specs.declared.names.TheConstants.{CUTOFF, ERRORS_ONLY, STRICT, WORKERS}
+use Rattle.console.specs.declared.names.TheConstants.{BY_FILES, BY_SERVICE, CUTOFF, ERRORS_ONLY, ORDER, STRICT, WORKERS}
+use Rattle.journal.specs.declared.order.Order.{Order}
+use Rattle.journal.specs.declared.order.Order.TheVariants.{Any, Files, Service}
+use Rattle.value_command.specs.Words.{word_at}
 use Rattle.adjudicate.specs.declared.check.report.Findings.{Findings}
 use Rattle.adjudicate.specs.declared.check.report.Findings.TheVariants.{All, Errors}
 
@@ -41,6 +44,16 @@ IsFindings matches findings = IsFlag (text_at matches ERRORS_ONLY.now) (is_error
 -- at most this number of claims is accepted
 abbrev pub IsCutoff : ArgMatches → Option ℕ → Type 0
 IsCutoff matches cutoff = IsNumber (text_at matches CUTOFF.now) cutoff
+
+-- the order that a word asks for; without a word claims are accepted in any order
+pub record IsOrderOf (word : Option (List ℕ)) (order : Order) : Type 0 where
+  pub by_files : word ≡ Some BY_FILES.now → order ≡ Files
+  pub by_service : word ≡ Some BY_SERVICE.now → order ≡ Service
+  pub absent : word ≡ None → order ≡ Any
+
+-- claims are accepted in this order
+abbrev pub IsOrder : ArgMatches → Order → Type 0
+IsOrder matches order = IsOrderOf (word_at matches ORDER.now) order
 
 -- this number of worker threads decides claims
 abbrev pub IsWorkers : ArgMatches → ℕ → Type 0

@@ -4,11 +4,12 @@ ghost use Rattle.std.specs.Prelude.{◌≡◌};
 ghost use Rattle.console.specs.declared.exit_status.ExitStatus.TheVariants.{Done, Refused};
 ghost use Rattle.commands.specs.Ends.{CommandIsDone, CommandIsRefused, IsDone, IsRefused};
 
+use crate::auditing::audit_of;
 use crate::check::check_of;
 use crate::run::run_of;
 use adjudicate::WORKERS_LIMIT;
 use clap::{ArgMatches, Error};
-use console::names::{CHECK, RUN, VALUE};
+use console::names::{AUDIT, CHECK, RUN, VALUE};
 use console::{
     ExitStatus, Sources, explains, grow_stack, matches_of, no_memory, program_arguments, usage,
 };
@@ -56,7 +57,7 @@ where
     }
 }
 
-/// `clap` accepts no command but these three.
+/// `clap` accepts no command but these four.
 fn command<R, S: Sources>(
     rt: &R,
     sources: &S,
@@ -75,8 +76,11 @@ where
     if let Some(words) = matches.subcommand_matches(CHECK) {
         return check_of(rt, sources, words, explains(words, is_watched));
     }
-    match matches.subcommand_matches(RUN) {
-        Some(words) => run_of(rt, sources, words, is_watched),
+    if let Some(words) = matches.subcommand_matches(RUN) {
+        return run_of(rt, sources, words, is_watched);
+    }
+    match matches.subcommand_matches(AUDIT) {
+        Some(words) => audit_of(rt, sources, words, explains(words, is_watched)),
         None => ExitStatus::Usage,
     }
 }

@@ -7,16 +7,16 @@ ghost use Rattle.claim_gate.specs.Terms.{text_in, texts_of as texts_after};
 ghost use Rattle.adjudicate.specs.RunStop.{IsRunReason};
 ghost use Rattle.console.specs.Reading.{IsReadUpTo};
 ghost use Rattle.intake_csv.specs.Limits.{file_limit_bytes};
-ghost use Rattle.adjudicate.specs.RunText.{IsRemittance, run_texts};
+ghost use Rattle.adjudicate.specs.RunText.{run_texts};
 ghost use Rattle.value_command.specs.Ends.{HasText, PutsText};
-ghost use Rattle.commands.specs.Ends.{HasRemittance, IsStatusOfRefusal, IsUnreadStatus, RunIsDone, RunIsRefused, IsRefusedRun};
+ghost use Rattle.commands.specs.Ends.{HasRemittance, IsStatusOfRefusal, IsRemittanceIn, IsUnreadStatus, RunIsDone, RunIsRefused, IsRefusedRun};
 ghost use Rattle.commands.specs.Texts.{AreNamedBalances, AreNamedFiles, HasNamedTexts};
 
 use crate::explaining::{AboutFiles, explain_refusal};
 use crate::strict::refuse_unused;
 use crate::summary::summary_of;
-use crate::words::{cutoff_of, is_strict, workers_of};
-use adjudicate::{Counting, FILE_LIMIT_BYTES, RunInput, do_counted_run};
+use crate::words::{cutoff_of, is_strict, order_of, workers_of};
+use adjudicate::{Counting, FILE_LIMIT_BYTES, Order, RunInput, do_counted_run};
 use clap::ArgMatches;
 use console::names::{BALANCES, FILE, SUMMARY};
 use console::{AtomicTarget, ExitStatus, Heartbeat, Sources, explains, input_once, no_memory};
@@ -32,10 +32,10 @@ use value_command::{
 };
 
 /// The texts of a run, in the order in which the program reads them.
-struct Texts {
-    plan: Vec<u8>,
+pub struct Texts {
+    pub plan: Vec<u8>,
     balances: Option<Vec<u8>>,
-    files: Vec<Vec<u8>>,
+    pub files: Vec<Vec<u8>>,
 }
 
 impl Drop for Texts {
@@ -49,7 +49,7 @@ impl Drop for Texts {
 }
 
 impl Texts {
-    fn balances_slice(&self) -> Option<&[u8]>
+    pub fn balances_slice(&self) -> Option<&[u8]>
         ensures { text_in result ≡ option_map (λ b. b.items) self.now.balances }
     {
         match &self.balances {
@@ -59,7 +59,11 @@ impl Texts {
     }
 
     /// What an explanation of an error needs.
-    fn about<'a, 'w>(&'a self, explains: bool, words: &'a ArgMatches<'w>) -> AboutFiles<'a, 'w> {
+    pub fn about<'a, 'w>(
+        &'a self,
+        explains: bool,
+        words: &'a ArgMatches<'w>,
+    ) -> AboutFiles<'a, 'w> {
         AboutFiles {
             plan: About {
                 explains,
@@ -141,15 +145,22 @@ where
         workers,
     };
     let has_summary = is_watched || matches.get_flag(SUMMARY);
-    run_anywhere(rt, &texts.about(explains, matches), input, has_summary)
+    let about = texts.about(explains, matches);
+    run_anywhere(rt, &about, input, order_of(matches), has_summary)
 }
 
 /// Runs into the file of `--output` or to standard output, and prints the counts of the records if
 /// they are requested.
-fn run_anywhere<R>(rt: &R, about: &AboutFiles, input: RunInput, has_summary: bool) -> ExitStatus
+fn run_anywhere<R>(
+    rt: &R,
+    about: &AboutFiles,
+    input: RunInput,
+    order: Order,
+    has_summary: bool,
+) -> ExitStatus
 where
     R: Files + Print + Eprint + AllocGlobal + Threads + Wait + Sync,
-    ensures done { result ≡ Done → HasText (IsRemittance (run_texts input.entry)) }
+    ensures done { result ≡ Done → HasText (IsRemittanceIn order (run_texts input.entry)) }
     ensures refused { result ≢ Done
         → IsStatusOfRefusal (IsRunReason (run_texts input.entry) input.entry.workers) result }
 {
@@ -158,7 +169,7 @@ where
     } else {
         Counting::nothing()
     };
-    let status = run_to_output(rt, about, input, &mut counting);
+    let status = run_to_output(rt, about, input, order, &mut counting);
     if status == ExitStatus::Done {
         report_counts(rt, &counting);
     }
@@ -170,17 +181,18 @@ fn run_to_output<R>(
     rt: &R,
     about: &AboutFiles,
     input: RunInput,
+    order: Order,
     counting: &mut Counting,
 ) -> ExitStatus
 where
     R: Files + Print + Eprint + AllocGlobal + Threads + Wait + Sync,
-    ensures done { result ≡ Done → HasText (IsRemittance (run_texts input.entry)) }
+    ensures done { result ≡ Done → HasText (IsRemittanceIn order (run_texts input.entry)) }
     ensures refused { result ≢ Done
         → IsStatusOfRefusal (IsRunReason (run_texts input.entry) input.entry.workers) result }
 {
     match output_of(rt, &about.plan) {
-        Ok(Some(mut file)) => run_into(rt, about, input, &mut file, counting),
-        Ok(None) => run(rt, about, input, counting),
+        Ok(Some(mut file)) => run_into(rt, about, input, order, &mut file, counting),
+        Ok(None) => run(rt, about, input, order, counting),
         Err(status) => status,
     }
 }
@@ -195,15 +207,21 @@ fn report_counts<R: Eprint + AllocGlobal>(rt: &R, counting: &Counting) {
 }
 
 /// The command `run` over its texts.
-fn run<R>(rt: &R, about: &AboutFiles, input: RunInput, counting: &mut Counting) -> ExitStatus
+fn run<R>(
+    rt: &R,
+    about: &AboutFiles,
+    input: RunInput,
+    order: Order,
+    counting: &mut Counting,
+) -> ExitStatus
 where
     R: Print + Eprint + AllocGlobal + Threads + Wait + Sync,
-    ensures done { result ≡ Done → HasText (IsRemittance (run_texts input.entry)) }
+    ensures done { result ≡ Done → HasText (IsRemittanceIn order (run_texts input.entry)) }
     ensures refused { result ≢ Done
         → IsStatusOfRefusal (IsRunReason (run_texts input.entry) input.entry.workers) result }
 {
     let mut out = Out::new(io::writer(rt));
-    let answer = do_counted_run(rt, input, &mut out, counting);
+    let answer = do_counted_run(rt, input, order, &mut out, counting);
     let status = exit_status_of(rt, &answer);
     explain_refusal(rt, about, &answer);
     status
@@ -215,12 +233,13 @@ fn run_into<R, P: AtomicTarget>(
     rt: &R,
     about: &AboutFiles,
     input: RunInput,
+    order: Order,
     place: &mut P,
     counting: &mut Counting,
 ) -> ExitStatus
 where
     R: Eprint + AllocGlobal + Threads + Wait + Sync,
-    ensures done { result ≡ Done → PutsText (IsRemittance (run_texts input.entry))
+    ensures done { result ≡ Done → PutsText (IsRemittanceIn order (run_texts input.entry))
         (P.current place.old) (P.current place.new) }
     ensures kept { result ≢ Done → Keeps (P.current place.old) (P.current place.new) }
     ensures refused { result ≢ Done
@@ -231,13 +250,13 @@ where
         Err(fault) => return report_unwritable(rt, &about.plan, &fault),
     };
     let mut out = Out::new(text);
-    let outcome = do_counted_run(rt, input, &mut out, counting);
+    let outcome = do_counted_run(rt, input, order, &mut out, counting);
     let status = commit_output(rt, &about.plan, place, out.into_inner(), &outcome);
     explain_refusal(rt, about, &outcome);
     status
 }
 
-fn slices_of(alloc: Global, files: &[Vec<u8>]) -> Result<Vec<&[u8]>, AllocError>
+pub fn slices_of(alloc: Global, files: &[Vec<u8>]) -> Result<Vec<&[u8]>, AllocError>
     ensures { IfOk result (λ slices. texts_after slices.items ≡ map (λ f. f.items) files.now) }
 {
     let mut slices = Vec::with_capacity(alloc, files.len())?;
@@ -248,7 +267,7 @@ fn slices_of(alloc: Global, files: &[Vec<u8>]) -> Result<Vec<&[u8]>, AllocError>
 }
 
 /// Reads the texts that the command line names. For the first one that cannot be read, an error line is printed, and its status is returned.
-fn texts_of<R: Eprint + AllocGlobal, S: Sources>(
+pub fn texts_of<R: Eprint + AllocGlobal, S: Sources>(
     rt: &R,
     sources: &S,
     matches: &ArgMatches<'_>,

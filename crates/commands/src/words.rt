@@ -1,11 +1,11 @@
 //! The options of a command line.
 
 ghost use Rattle.std.specs.Prelude.{◌≡◌, IfSome, true};
-ghost use Rattle.commands.specs.Words.{IsCutoff, IsStrict, IsFindings, IsWorkers};
+ghost use Rattle.commands.specs.Words.{IsCutoff, IsStrict, IsFindings, IsOrder, IsWorkers};
 
-use adjudicate::Findings;
+use adjudicate::{Findings, Order};
 use clap::ArgMatches;
-use console::names::{CUTOFF, ERRORS_ONLY, STRICT, WORKERS};
+use console::names::{BY_FILES, BY_SERVICE, CUTOFF, ERRORS_ONLY, ORDER, STRICT, WORKERS};
 
 /// Whether unknown keys of the plan are errors.
 pub fn is_strict(matches: &ArgMatches<'_>) -> bool
@@ -30,6 +30,20 @@ pub fn cutoff_of(matches: &ArgMatches<'_>) -> Option<u64>
     ensures { IsCutoff matches.now result }
 {
     matches.get_one::<u64>(CUTOFF)
+}
+
+/// The order in which claims are accepted; `Any` if none is given. `clap` refuses other words.
+pub fn order_of(matches: &ArgMatches<'_>) -> Order
+    ensures { IsOrder matches.now result }
+{
+    let Some(word) = matches.get_str(ORDER) else {
+        return Order::Any;
+    };
+    match word {
+        BY_FILES => Order::Files,
+        BY_SERVICE => Order::Service,
+        _ => Order::Any,
+    }
 }
 
 /// The number of worker threads. `clap` fills in the default.

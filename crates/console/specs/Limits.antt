@@ -1,6 +1,13 @@
 -- The limits of the values of the command line.
-use Rattle.std.specs.Prelude.{ℕ}
+use Rattle.std.specs.Prelude.{◌≡◌, ℕ, List, map}
+use Rattle.clap.specs.declared.builder.value_parser.ValueParser.{ValueParser}
+use Rattle.clap.specs.declared.builder.value_parser.ValueParser.TheVariants.{Names}
 
 -- the greatest value of `--cutoff`
 abbrev pub cutoff_limit : ℕ
 cutoff_limit = 1000000000
+
+-- the parser takes these words, and no other
+abbrev pub TakesWords : List (List ℕ) → ValueParser → Type 0
+TakesWords words (Names names) = map (λ name. name.now) names.now ≡ words
+TakesWords words _ = ⊥

@@ -1,17 +1,23 @@
 //! The arguments of the commands, with their help.
 
-ghost use Rattle.std.specs.Prelude.{◌≡◌, true};
+ghost use Rattle.std.specs.Prelude.{◌≡◌, ◌∷◌, [], true};
 ghost use Rattle.clap.specs.Words.{parser_of};
 ghost use Rattle.clap.specs.declared.builder.value_parser.ValueParser.TheVariants.{Unsigned};
-ghost use Rattle.console.specs.Limits.{cutoff_limit};
+ghost use Rattle.console.specs.Limits.{TakesWords, cutoff_limit};
 
-use crate::names::{ASSIGNMENT, BALANCES, CUTOFF, FILE, OUTPUT, PLAN, WORKERS};
+use crate::names::{
+    ASSIGNMENT, BALANCES, BY_FILES, BY_SERVICE, CUTOFF, FILE, ORDER, OUTPUT, PLAN, REMITTANCE,
+    WORKERS,
+};
 use clap::builder::ValueParser;
 use clap::{Arg, ArgAction};
 use std::alloc::Global;
 
 /// The greatest value of `--cutoff`.
 const CUTOFF_LIMIT: u64 = 1_000_000_000;
+
+/// The values of `--order`.
+static ORDERS: [&str; 2] = [BY_FILES, BY_SERVICE];
 
 /// The plan file, a required argument of every command.
 pub fn plan_argument<'a>(alloc: Global) -> Arg<'a>
@@ -54,6 +60,27 @@ pub fn cutoff_argument<'a>(alloc: Global) -> Arg<'a>
         .value_name("N")
         .value_parser(ValueParser::unsigned(0, CUTOFF_LIMIT))
         .help("Accept at most N claims; the others are reported as `late`")
+}
+
+/// The order in which claims are accepted: that of the files, or by day of service.
+pub fn order_argument<'a>(alloc: Global, help: &'a str) -> Arg<'a>
+    ensures { TakesWords (BY_FILES.now ∷ BY_SERVICE.now ∷ []) (parser_of result) }
+{
+    Arg::new(alloc, ORDER)
+        .long("order")
+        .value_name("ORDER")
+        .value_parser(ValueParser::Names(ORDERS.as_slice()))
+        .help(help)
+}
+
+/// The remittance that is audited.
+pub fn remittance_argument<'a>(alloc: Global) -> Arg<'a>
+    ensures needed { result.required ≡ true }
+{
+    Arg::new(alloc, REMITTANCE)
+        .long("remittance")
+        .help("The remittance to audit, CSV")
+        .required(true)
 }
 
 /// The number of worker threads, from 1 to the limit.

@@ -6,10 +6,10 @@ ghost use Rattle.clap.specs.declared.builder.command.Command.TheViews.{out-Comma
 
 use crate::arguments::{
     assignment_argument, balances_argument, cutoff_argument, files_argument, flag_argument,
-    output_argument, plan_argument, workers_argument,
+    order_argument, output_argument, plan_argument, remittance_argument, workers_argument,
 };
-use crate::names::{CHECK, ERRORS_ONLY, EXPLAIN, RUN, STRICT, SUMMARY, VALUE};
-use crate::texts::{check_example, run_example, statuses, value_example};
+use crate::names::{AUDIT, CHECK, ERRORS_ONLY, EXPLAIN, RUN, STRICT, SUMMARY, VALUE};
+use crate::texts::{audit_example, check_example, run_example, statuses, value_example};
 use clap::{Arg, ArgMatches, Command, Error};
 use std::alloc::{AllocError, Global};
 
@@ -24,11 +24,13 @@ pub fn matches_of<'a>(
 }
 
 fn command_line<'a>(alloc: Global, workers_limit: usize) -> Result<Command<'a>, AllocError>
-    ensures { IfOk result (λ line. subcommand_names line ≡ VALUE.now ∷ CHECK.now ∷ RUN.now ∷ []) }
+    ensures { IfOk result (λ line. subcommand_names line
+        ≡ VALUE.now ∷ CHECK.now ∷ RUN.now ∷ AUDIT.now ∷ []) }
 {
     let line = with_command(bare_line(alloc)?, value_command(alloc))?;
     let line = with_command(line, check_command(alloc))?;
-    with_command(line, run_command(alloc, workers_limit))
+    let line = with_command(line, run_command(alloc, workers_limit))?;
+    with_command(line, audit_command(alloc))
 }
 
 fn bare_line<'a>(alloc: Global) -> Result<Command<'a>, AllocError>
@@ -88,12 +90,14 @@ fn run_command<'a>(alloc: Global, workers_limit: usize) -> Result<Command<'a>, A
     ensures { IfOk result (λ command. (fields_of command).name.now ≡ RUN.now) }
 {
     let about = "Settle the claims in the providers' files, and write the remittance";
+    let order = "Accept the claims file by file, or by day of service";
     let summary = "Print the number of records by status (default on a terminal)";
     let strict = "Refuse a plan with unknown keys";
     let arguments = vec![in alloc;
         plan_argument(alloc).long("plan"),
         balances_argument(alloc),
         cutoff_argument(alloc),
+        order_argument(alloc, order),
         workers_argument(alloc, workers_limit as u64),
         output_argument(alloc),
         flag_argument(alloc, SUMMARY, "summary", summary),
@@ -101,6 +105,22 @@ fn run_command<'a>(alloc: Global, workers_limit: usize) -> Result<Command<'a>, A
         files_argument(alloc),
     ]?;
     command_of(alloc, RUN, about, run_example(), arguments)
+}
+
+fn audit_command<'a>(alloc: Global) -> Result<Command<'a>, AllocError>
+    ensures { IfOk result (λ command. (fields_of command).name.now ≡ AUDIT.now) }
+{
+    let about = "Say whether a remittance is the one that a run in an order writes";
+    let order = "The order in which the run accepted the claims";
+    let arguments = vec![in alloc;
+        plan_argument(alloc).long("plan"),
+        balances_argument(alloc),
+        cutoff_argument(alloc),
+        order_argument(alloc, order).required(true),
+        remittance_argument(alloc),
+        files_argument(alloc),
+    ]?;
+    command_of(alloc, AUDIT, about, audit_example(), arguments)
 }
 
 fn command_of<'a>(

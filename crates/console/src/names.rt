@@ -9,6 +9,9 @@ pub const CHECK: &str = "check";
 /// The command that settles claims.
 pub const RUN: &str = "run";
 
+/// The command that compares a remittance with the one that a run in an order writes.
+pub const AUDIT: &str = "audit";
+
 /// The plan file of each command.
 pub const PLAN: &str = "PLAN";
 
@@ -20,6 +23,18 @@ pub const BALANCES: &str = "BALANCES";
 
 /// The greatest number of claims that a run accepts.
 pub const CUTOFF: &str = "CUTOFF";
+
+/// The order in which claims are accepted.
+pub const ORDER: &str = "ORDER";
+
+/// The word for the order of the files.
+pub const BY_FILES: &str = "files";
+
+/// The word for the order by day of service.
+pub const BY_SERVICE: &str = "service";
+
+/// The remittance that is audited.
+pub const REMITTANCE: &str = "REMITTANCE";
 
 /// The number of worker threads.
 pub const WORKERS: &str = "WORKERS";

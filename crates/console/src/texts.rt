@@ -27,7 +27,26 @@ pub fn run_example() -> &'static str {
 The first file is provider 1, the second is provider 2, and so on, up to 64.
 The remittance goes to standard output as CSV. It has one record for each
 record of each file (paid, denied, pended, refused or late), and then one with
-the totals."
+the totals.
+
+Without --order, claims of different files are accepted in any order, so that
+two runs may differ where a family has claims in several files. With --order
+files all claims of a file come before those of the next one. With --order
+service, of the next claims of all files the one with the earliest day of
+service comes first, at the same day that of the earlier file. In either order
+there is one remittance."
+}
+
+pub fn audit_example() -> &'static str {
+    "Example:
+  adjudicate run --plan examples/health_plan.toml --order files \\
+    --output remittance.csv examples/clinic.csv examples/laboratory.csv
+  adjudicate audit --plan examples/health_plan.toml --order files \\
+    --remittance remittance.csv examples/clinic.csv examples/laboratory.csv
+
+Give the plan, the balances, the cutoff, the order and the files of the run.
+The exit status is 0 if the remittance is the one of these texts in this order,
+byte by byte. Otherwise it is 1, and the first record that differs is printed."
 }
 
 pub fn statuses() -> &'static str {

@@ -4,6 +4,8 @@ use Rattle.adjudicate.specs.Stop.{status_of}
 use Rattle.evaluation.specs.declared.stop.ValueStop.TheVariants.{NoMemory}
 use Rattle.value_command.proofs.Ends.{placed_refused, placed_through}
 use Rattle.commands.proofs.Ends.{resource_refused}
+use Rattle.adjudicate.specs.RunText.{run_texts}
+use Rattle.commands.proofs.Ordered.{written_in_order}
 use Rattle.commands.proofs.run.run_into.Goals as goal
 
 pub returns-in-Err-clause-refused : goal.returns-in-Err-clause-refused
@@ -13,5 +15,7 @@ pub returns-clause-refused : goal.returns-clause-refused
 returns-clause-refused g c = placed_refused status_of _ (Value NoMemory) refl tt _ _ c.do_counted_run-outcome.ensures.reason c.commit_output-status.ensures.status
 
 pub returns-clause-done : goal.returns-clause-done
-returns-clause-done g c = placed_through g.P.Text.Write.contents _ _ _ _ _ _ _ _ _ _ c.begin.ensures.kept c.do_counted_run-outcome.ensures.written
+returns-clause-done g c =
+    let written = written_in_order c.args.order (run_texts c.args.input) _ _ c.do_counted_run-outcome.result c.do_counted_run-outcome.ensures.written c.do_counted_run-outcome.ensures.ordered in
+    placed_through g.P.Text.Write.contents _ _ _ _ _ _ _ _ _ _ c.begin.ensures.kept written
     c.commit_output-status.ensures.refused c.commit_output-status.ensures.put c.new-out.ensures.writer c.into_inner.ensures (search rules)
