@@ -1,30 +1,17 @@
--- The claims of a file in order, and jobs in progress.
-use Rattle.std.proofs.Common.{◌≡◌, ℕ, zero, suc, ◌<◌, ◌≤◌, ◌+◌, ◌-◌, true, false, List, [], ◌∷◌, ◌++◌, length, get_or, Some, Result, Ok, Err, refl, sym, ap, ◌∙◌, subst, IfOk, arith, append_assoc, append-nil, eq-eqb}
+-- The claims of a file in order.
+use Rattle.std.proofs.Common.{◌≡◌, ℕ, zero, suc, ◌<◌, ◌≤◌, ◌+◌, ◌-◌, List, [], ◌∷◌, ◌++◌, length, get_or, Some, refl, sym, ap, ◌∙◌, subst, arith, append_assoc, append-nil}
 use Rattle.std.specs.Borrow.{Bor}
 use Rattle.std.specs.List.{AllZip, slice_get}
-use Rattle.std.proofs.lemmas.Bool.{both_ways, or_left}
 use Rattle.std.proofs.lemmas.List.{length-map, length_push}
-use Rattle.std.proofs.lemmas.List.Folds.{list_any-append}
 use Rattle.settlement.specs.declared.claim.Claim.{Claim}
 use Rattle.intake_csv.specs.Laws.{StartHasTheRows, GivenRowIsTheFirst, NoRecordsNoRows, LieApart}
 use Rattle.intake_csv.specs.Rows.{GivesRow, IsAtStart, RowsLeft, claims_among}
 use Rattle.intake_csv.specs.declared.rows.Row.TheVariants.{Good}
 use Rattle.claim_gate.specs.Terms.{TermsParts, AreClaimsOf, IsTermsOf, texts_of, ForTerms}
 use Rattle.journal.specs.Terms.{Terms, claims_of}
-use Rattle.journal.specs.Events.{is_take, has_take, IsJob}
-use Rattle.journal.specs.Gate.{GateAt, Continues, TakeReply, Takes, LeadsTo}
-use Rattle.journal.specs.Laws.{JobsAreStable}
-use Rattle.journal.specs.declared.event.Event.{Event}
-use Rattle.journal.specs.declared.event.Event.TheVariants.{Take}
-use Rattle.claim_gate.specs.Parts.{GateParts, at}
-use Rattle.claim_gate.specs.Replies.{HasClaims, IsWorkOf, take_reply}
-use Rattle.test_gate.specs.Words.{IsReader, IsAtWork, IsTaken, WorkStays}
-use Rattle.claim_gate.specs.declared.job.Job.{Job}
-use Rattle.claim_gate.specs.declared.fault.TakeFault.{TakeFault}
-use Rattle.claim_gate.specs.declared.reply.Taken.{Taken}
-use Rattle.claim_gate.specs.declared.reply.Taken.TheVariants.{Stopped, Over, NothingReady, Work}
-use Rattle.claim_gate.proofs.Journals.{any_now}
+use Rattle.claim_gate.specs.Replies.{HasClaims}
 use Rattle.claim_gate.proofs.Providers.{as_many_files}
+use Rattle.test_gate.specs.Words.{IsReader}
 
 zipped_at : {A B : Type 0} (R : A → B → Type 0) (xs : List A) (ys : List B) (i : ℕ) (d : A) (e : B) → AllZip R xs ys → i < length xs → R (get_or xs i d) (get_or ys i e)
 zipped_at R [] [] i d e h within = let never : ⊥ = omega arith in absurd never
@@ -105,67 +92,3 @@ has_claims law T provider count left r none same =
 pub record IsAfter (terms : TermsParts) (provider place : ℕ) (left : RowsLeft) : Type 0 where
   pub reader : ForTerms terms (λ T. IsReader T provider left)
   pub place_is : left.place ≡ place
-
--- a job in progress remains so when the journal is continued
-pub goes_on : JobsAreStable → (old new : GateParts) → new.terms ≡ old.terms → Continues old.journal new.journal → WorkStays old new
-goes_on law old new same on job work =
-    let before : (T : Terms) → GateAt = λ T. record { terms = T; journal = old.journal; stopped = false } in
-    let following : (T : Terms) → GateAt = λ T. record { terms = T; journal = new.journal; stopped = false } in
-    record {
-      is_taken =
-          ap (λ J. has_take J job.position) on.whole
-          ∙ list_any-append (is_take job.position) old.journal on.rest
-          ∙ or_left (has_take old.journal job.position) (has_take on.rest job.position) work.is_taken;
-      its = λ T is.
-          law (before T) (following T) job.position job.claim job.acc
-          (record { terms = refl; journal = on; stop = λ s. absurd (both_ways false refl s) })
-          (work.its T (subst (λ p. IsTermsOf p T) same is));
-    }
-
--- a job in progress remains so when the gate is stopped
-pub stays_stopped : (old new : GateParts) → new ≡ record old { stopped = true } → WorkStays old new
-stays_stopped old new same job work =
-    subst (λ g. IsAtWork g job) (sym same) (record { is_taken = work.is_taken; its = work.its })
-
--- a journal with one more event continues the old one
-pub one_more : (old new : GateParts) (event : Event) → new ≡ record old { journal = old.journal ++ event ∷ [] } → Continues old.journal new.journal
-one_more old new event is = record { rest = event ∷ []; whole = ap (λ (g : GateParts). g.journal) is }
-
--- a job that is taken is in progress
-pub at_work : JobsAreStable → (old new : GateParts) (job : Job) → ForTerms old.terms (λ T. IsJob T old.journal job.position job.claim job.acc)
-    → new ≡ record old { journal = old.journal ++ Take job.position ∷ [] } → IsAtWork new job
-at_work law old new job its is =
-    let on : Continues old.journal (old.journal ++ Take job.position ∷ []) = record { rest = Take job.position ∷ []; whole = refl } in
-    subst (λ g. IsAtWork g job) (sym is) (record {
-      is_taken = any_now (is_take job.position) old.journal (Take job.position) (eq-eqb job.position job.position refl);
-      its = λ T terms.
-          law (record { terms = T; journal = old.journal; stopped = false })
-          (record { terms = T; journal = old.journal ++ Take job.position ∷ []; stopped = false }) job.position job.claim job.acc
-          (record { terms = refl; journal = on; stop = λ s. absurd (both_ways false refl s) })
-          (its T terms);
-    })
-
--- a job in progress remains so in every state to which the old one leads
-pub stays_at_work : JobsAreStable → (earlier later : GateParts) (job : Job) → LeadsTo earlier later → IsAtWork earlier job → IsAtWork later job
-stays_at_work law earlier later job leads work = goes_on law earlier later leads.terms leads.journal job work
-
-pub work_stays : JobsAreStable → (earlier later : GateParts) → LeadsTo earlier later → WorkStays earlier later
-work_stays law earlier later leads = goes_on law earlier later leads.terms leads.journal
-
--- a job that has come back is still in progress
-pub back_at_work : JobsAreStable → (earlier later : GateParts) (given back : Job) → LeadsTo earlier later → back ≡ given → IsAtWork earlier given → IsAtWork later back
-back_at_work law earlier later given back leads same work =
-    subst (IsAtWork later) (sym same) (stays_at_work law earlier later given leads work)
-
--- a job that a call of the sequential gate has taken is in progress
-pub work_taken : JobsAreStable → (old new : GateParts) (reply : Result Taken TakeFault) → ForTerms old.terms (λ T. Takes (at T old) (take_reply reply) (at T new))
-    → IfOk reply (IsWorkOf old new) → IfOk reply (IsTaken new)
-work_taken law old new (Ok Stopped) went work = tt
-work_taken law old new (Ok Over) went work = tt
-work_taken law old new (Ok NothingReady) went work = tt
-work_taken law old new (Ok (Work job)) went work = at_work law old new job (λ T is. (went T is).2.job) work
-work_taken law old new (Err fault) went work = tt
-
--- the job of an answer of `take` is in progress
-pub its_job : (gate : GateParts) (reply : Result Taken TakeFault) (job : Job) → reply ≡ Ok (Work job) → IfOk reply (IsTaken gate) → IsAtWork gate job
-its_job gate reply job is work = subst (λ r. IfOk r (IsTaken gate)) is work

@@ -1,3 +1,6 @@
+pub mod Callers
 pub mod Filing
+pub mod Jobs
 pub mod Meeting
 pub mod Order
+pub mod Orders

@@ -1,11 +1,10 @@
 -- Offers where claims are accepted in any order.
-use Rattle.std.proofs.Common.{◌≡◌, ◌∙◌, ℕ, false, ap, sym}
-use Rattle.std.proofs.lemmas.Bool.{false≢true}
+use Rattle.std.proofs.Common.{◌≡◌, ◌∙◌, ℕ, ap}
 use Rattle.claim_gate.specs.Terms.{TermsParts}
 use Rattle.claim_gate.specs.Parts.{GateParts}
-use Rattle.claim_gate.specs.Shared.{InTurn}
+use Rattle.claim_gate.specs.Shared.{IsDueAt}
+use Rattle.test_gate.specs.Words.{IsAnyOrder}
 
--- each provider may offer
-pub any_order : (gate : GateParts) (terms : TermsParts) (provider : ℕ) → gate.terms ≡ terms → terms.in_order ≡ false → InTurn gate provider
-any_order gate terms provider same any by_files q least before =
-    absurd (false≢true (sym any ∙ sym (ap (λ (t : TermsParts). t.in_order) same) ∙ by_files))
+-- each claim may be offered
+pub any_order : (gate : GateParts) (terms : TermsParts) (provider place : ℕ) → gate.terms ≡ terms → IsAnyOrder terms → IsDueAt gate provider place
+any_order gate terms provider place same any ordered = absurd (ordered (ap (λ (t : TermsParts). t.order) same ∙ any))

@@ -5,7 +5,7 @@ use claim_gate::{Event, GateState};
 // The number of bytes for an event.
 const WORD_BYTES: usize = 3;
 
-pub type Word = [u8; WORD_BYTES];
+type Word = [u8; WORD_BYTES];
 
 // The text of an event: a letter, and then the provider and place, or the position, as digits,
 // padded with blanks. In the tests these numbers are below 10.
@@ -23,14 +23,6 @@ fn digit(number: usize) -> u8 {
     match u8::try_from(number) {
         Ok(number) if number < 10 => b'0' + number,
         _ => b'?',
-    }
-}
-
-// The text of the last event of a journal, or blanks if there is none.
-pub fn last_word(journal: &[Event]) -> Word {
-    match journal.last() {
-        Some(event) => word_of(event),
-        None => *b"   ",
     }
 }
 

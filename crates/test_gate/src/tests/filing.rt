@@ -1,9 +1,9 @@
 //! The plan, the terms and the gate of a test, and the claims of the providers' files, read one
 //! after another as an intake thread does. Whatever runs out of memory is repeated once.
-ghost use Rattle.std.specs.Prelude.{◌≡◌, ◌+◌, false, IfOk, OnOk};
+ghost use Rattle.std.specs.Prelude.{◌≡◌, ◌+◌, IfOk, OnOk};
 ghost use Rattle.claim_gate.specs.Terms.{ForTerms};
 ghost use Rattle.claim_gate.specs.Replies.{HasClaims, IsFiled};
-ghost use Rattle.test_gate.specs.Words.{IsReader};
+ghost use Rattle.test_gate.specs.Words.{IsAnyOrder, IsReader};
 
 use super::fail;
 use claim_gate::{BoxedClaim, GateState, Offer, Terms};
@@ -37,7 +37,7 @@ pub fn terms_of<'a>(
     files: &'a [&'a [u8]],
     cutoff: Option<u64>,
 ) -> Terms<'a>
-    ensures { result.in_order ≡ false }
+    ensures { IsAnyOrder result }
 {
     if let Ok(terms) = Terms::new(alloc, plan, files, None, cutoff) {
         return terms;

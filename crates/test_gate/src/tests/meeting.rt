@@ -1,42 +1,21 @@
 //! Two passes of a gate with a ticket lock meet: afterwards each has seen what either of them had
 //! seen.
 
-ghost use Rattle.std.specs.Prelude.{◌≡◌, false};
+ghost use Rattle.std.specs.Prelude.{◌≡◌};
 ghost use Rattle.turn_lock.specs.TicketShown.{IsPassOf, pass_knows};
-ghost use Rattle.test_gate.specs.Words.{IsCaller};
+ghost use Rattle.test_gate.specs.Words.{IsAnyOrder};
 
-use super::filing::is_offer;
+use super::fail;
 use super::locks::{by_tickets, with_used};
+use super::play::play;
 use super::runs::{Calls, run};
-use super::shared::{accept_at, find_stopped, refuse_at};
-use super::{counts, expects, fail};
-use claim_gate::{Gate, LockedGate, OfferFault, SerialGate, Served, Terms, WornOut};
+use super::scripts::{first_offer, other_stop, then_stopped};
+use claim_gate::{Gate, LockedGate, SerialGate, Served, Terms, WornOut};
 use std::alloc::Global;
 use std::process::Abort;
 use std::sync::Wait;
 use test_fixtures::{both_files, first_file, health_plan};
 use turn_lock::{Pass, TicketLock};
-
-// The pass finds that one claim is accepted, which is refused if it is offered again.
-fn finds_one<G: Gate>(
-    rt: &(impl Abort + Wait),
-    alloc: Global,
-    terms: &Terms,
-    gate: &G,
-    pass: G::Pass,
-) -> G::Pass
-    requires caller { IsCaller (G.has_pass gate.now) G.known terms.now pass }
-    ensures caller { IsCaller (G.has_pass gate.now) G.known terms.now result }
-{
-    let Ok(Served { reply, pass }) = gate.counts(rt, pass) else {
-        fail(rt, "counts")
-    };
-    expects(rt, reply.accepted == 1, "these counts");
-    let out_of_turn = OfferFault::OutOfTurn { expected: 1 };
-    let (pass, back) = refuse_at(rt, alloc, terms, gate, pass, (1, 0), out_of_turn);
-    expects(rt, is_offer(back, 1, 0, "c1"), "the offer");
-    pass
-}
 
 // The calls of two passes that meet twice: after one has offered a claim, and after the other has
 // stopped the gate.
@@ -48,25 +27,21 @@ fn met_calls<V: SerialGate + Send + Drop>(
     lock: TicketLock<V>,
     pass: Pass<V>,
 )
-    requires any_order { terms.now.in_order ≡ false }
+    requires any_order { IsAnyOrder terms.now }
     requires own { IsPassOf lock pass }
     requires terms { (V.shown (pass_knows pass).seen).terms ≡ terms.now }
 {
     let gate = LockedGate::over(lock);
-    let (one, other) = gate.split(pass);
-    let before = counts(0, 0, 0, false);
-    let one = accept_at(rt, alloc, terms, &gate, one, (1, 0), 0, before);
-    let (one, other) = gate.meet(one, other);
-    let other = finds_one(rt, alloc, terms, &gate, other);
-    let Ok(other) = gate.stop(rt, other) else {
-        fail(rt, "a stop")
-    };
-    let (one, _other) = gate.meet(one, other);
-    let _one = find_stopped(rt, terms, &gate, one);
+    let passes = gate.split(pass);
+    let (one, other) = play(rt, alloc, terms, &gate, passes, first_offer());
+    let passes = gate.meet(one, other);
+    let (one, other) = play(rt, alloc, terms, &gate, passes, other_stop());
+    let passes = gate.meet(one, other);
+    let _passes = play(rt, alloc, terms, &gate, passes, then_stopped());
 }
 
 pub fn meet_once(rt: &(impl Abort + Wait), alloc: Global, terms: &Terms)
-    requires any_order { terms.now.in_order ≡ false }
+    requires { IsAnyOrder terms.now }
 {
     let (lock, pass) = by_tickets(rt, alloc, terms);
     met_calls(rt, alloc, terms, lock, pass)

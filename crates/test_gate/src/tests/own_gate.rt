@@ -1,13 +1,13 @@
 //! A host's own gate. A host writes what it needs of a gate around another one, with no call beside
 //! those of the trait: this gate counts its calls and leaves the rest to a gate in a lock.
-ghost use Rattle.std.specs.Prelude.{◌≡◌, false};
-ghost use Rattle.test_gate.specs.Words.{IsCaller};
+ghost use Rattle.std.specs.Prelude.{◌≡◌, IfSome};
+ghost use Rattle.test_gate.specs.Words.{IsAnyOrder};
 
-use super::hostile::decide_only;
-use super::locks::{by_tickets, ends_with};
+use super::expects;
+use super::locks::{by_tickets, check_ending, retire_gate};
+use super::play::play;
 use super::runs::{Calls, run};
-use super::worked::one_file;
-use super::{counts, expects, fail};
+use super::scripts::{one_file, own_ending, own_script};
 use claim_gate::{
     BoxedOutcome, Counts, DecidedJob, EndFault, Ended, FinishResult, Gate, Job, LockedGate, Offer,
     OfferResult, SerialGate, Served, TakeFault, Taken, Terms, WornOut,
@@ -108,56 +108,38 @@ impl<G: Gate> Gate for CountedGate<G> {
     }
 }
 
-// Accepts and decides the only claim by one pass, reads the counts by the other one, and stops the gate.
-fn call_each<G: Gate>(
-    rt: &(impl Abort + Wait),
-    alloc: Global,
-    terms: &Terms,
-    gate: &G,
-    pass: G::Pass,
-) -> G::Pass
-    requires { IsCaller (G.has_pass gate.now) G.known terms.now pass }
-    ensures { G.has_pass gate.now result }
-{
-    let (pass, other) = gate.split(pass);
-    let pass = decide_only(rt, alloc, terms, gate, pass);
-    let Ok(Served { reply, .. }) = gate.counts(rt, other) else {
-        fail(rt, "counts")
-    };
-    expects(rt, reply == counts(1, 1, 1, true), "a decided claim");
-    let Ok(pass) = gate.stop(rt, pass) else {
-        fail(rt, "a stop")
-    };
-    pass
-}
-
-// The calls are one offer, end and take, two finishes, the counts, and the stop.
+// The calls are one offer, end and take, two finishes, the counts, and the stop. Returns the
+// sequential gate.
 fn calls_over<S: Section + Drop>(
     rt: &(impl Abort + Wait),
     alloc: Global,
     terms: &Terms,
     lock: S,
     pass: S::Pass,
-)
+) -> Option<S::Value>
 where
     S::Value: SerialGate + Drop,
     S::Pass: Send + Drop,
-    requires any_order { terms.now.in_order ≡ false }
+    requires any_order { IsAnyOrder terms.now }
     requires own { S.has_pass lock pass }
     requires terms { (S.Value.shown (S.seen pass)).terms ≡ terms.now }
+    ensures { IfSome result (λ state. (S.Value.shown state).terms ≡ terms.now) }
 {
     let counted = CountedGate::over(LockedGate::over(lock));
-    let pass = call_each(rt, alloc, terms, &counted, pass);
-    ends_with(rt, &counted.gate, pass, b"A10E1 C  T0 D0 ");
+    let passes = counted.split(pass);
+    let (pass, _other) = play(rt, alloc, terms, &counted, passes, own_script());
     expects(rt, counted.calls.load(Ordering::SeqCst) == 7, "seven calls");
+    let state = retire_gate(rt, terms, &counted.gate, pass);
     drop(counted);
+    state
 }
 
 pub fn own_calls(rt: &(impl Abort + Wait), alloc: Global, terms: &Terms)
-    requires any_order { terms.now.in_order ≡ false }
+    requires { IsAnyOrder terms.now }
 {
     let (lock, pass) = by_tickets(rt, alloc, terms);
-    calls_over(rt, alloc, terms, lock, pass)
+    let state = calls_over(rt, alloc, terms, lock, pass);
+    check_ending(rt, terms, state, own_ending())
 }
 
 #[test]

@@ -1,9 +1,9 @@
 //! Two threads offer the same file, each with a pass of its own. A thread whose claim the other one
 //! has offered before goes on at the expected place.
-ghost use Rattle.std.specs.Prelude.{◌≡◌, false};
+ghost use Rattle.std.specs.Prelude.{◌≡◌};
 ghost use Rattle.claim_gate.specs.Terms.{ForTerms};
 ghost use Rattle.claim_gate.specs.Replies.{IsFiled};
-ghost use Rattle.test_gate.specs.Words.{IsCaller};
+ghost use Rattle.test_gate.specs.Words.{IsAnyOrder, IsCaller};
 
 use super::filing::{offer_at, plan_of, terms_of};
 use super::locks::by_tickets;
@@ -183,7 +183,7 @@ fn rivals_over<S: Section + Drop + Sync, R: Threads + Wait + Abort + Sync>(
 where
     S::Value: SerialGate + Drop + Send + Sync,
     S::Pass: Send + Drop,
-    requires any_order { terms.now.in_order ≡ false }
+    requires any_order { IsAnyOrder terms.now }
     requires own { S.has_pass lock pass }
     requires terms { (S.Value.shown (S.seen pass)).terms ≡ terms.now }
 {
@@ -199,7 +199,7 @@ where
 }
 
 fn rivals<R: Threads + Wait + Abort + Sync>(rt: &R, alloc: Global, terms: &Terms)
-    requires any_order { terms.now.in_order ≡ false }
+    requires any_order { IsAnyOrder terms.now }
 {
     let (lock, pass) = by_tickets(rt, alloc, terms);
     rivals_over(rt, alloc, terms, lock, pass);

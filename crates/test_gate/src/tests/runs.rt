@@ -1,17 +1,12 @@
 //! The runs of the tests: each makes its calls under the terms of a plan and of files, which are
 //! given as texts.
-ghost use Rattle.std.specs.Prelude.{◌≡◌, false};
+ghost use Rattle.test_gate.specs.Words.{IsAnyOrder};
 
-use super::families::family_calls;
+use super::alone::{begin_calls, end_calls};
 use super::filing::{plan_of, terms_of};
-use super::hostile::by_both_locks;
-use super::in_turn::{by_a_spin_lock, by_a_ticket_lock};
-use super::last_ticket::{few_tickets, two_tickets};
+use super::locks::Play;
 use super::meeting::{meet_once, meet_without};
-use super::no_room::full_calls;
 use super::own_gate::own_calls;
-use super::worked::{closed_calls, copy_calls, end_again, end_calls, stop_calls, turn_calls};
-use super::{admit_none, begin_calls, stop_none};
 use claim_gate::Terms;
 use std::alloc::Global;
 use std::process::Abort;
@@ -21,50 +16,24 @@ use std::sync::Wait;
 #[derive(Clone, Copy)]
 pub enum Calls {
     Begin,
-    AdmitNone,
-    StopNone,
-    TakeTurns,
-    DecideTwice,
-    Stop,
     RunToTheEnd,
-    EndTwice,
-    OfferToNobody,
-    TakeFamiliesTurns,
-    TakeTurnsBySpinLock,
-    TakeTurnsByTicketLock,
-    DecideTwiceByLocks,
-    LastTickets,
-    OutcomeWithoutTicket,
+    CallOwnGate,
     Meet,
     MeetWithoutTicket,
-    FillJournals,
-    CallOwnGate,
+    Play(Play),
 }
 
 impl Calls {
     fn make(self, rt: &(impl Abort + Wait), alloc: Global, terms: &Terms)
-        requires any_order { terms.now.in_order ≡ false }
+        requires { IsAnyOrder terms.now }
     {
         match self {
             Calls::Begin => begin_calls(rt, alloc, terms),
-            Calls::AdmitNone => admit_none(rt, alloc, terms),
-            Calls::StopNone => stop_none(rt, alloc, terms),
-            Calls::TakeTurns => turn_calls(rt, alloc, terms),
-            Calls::DecideTwice => copy_calls(rt, alloc, terms),
-            Calls::Stop => stop_calls(rt, alloc, terms),
             Calls::RunToTheEnd => end_calls(rt, alloc, terms),
-            Calls::EndTwice => end_again(rt, alloc, terms),
-            Calls::OfferToNobody => closed_calls(rt, alloc, terms),
-            Calls::TakeFamiliesTurns => family_calls(rt, alloc, terms),
-            Calls::TakeTurnsBySpinLock => by_a_spin_lock(rt, alloc, terms),
-            Calls::TakeTurnsByTicketLock => by_a_ticket_lock(rt, alloc, terms),
-            Calls::DecideTwiceByLocks => by_both_locks(rt, alloc, terms),
-            Calls::LastTickets => few_tickets(rt, alloc, terms),
-            Calls::OutcomeWithoutTicket => two_tickets(rt, alloc, terms),
+            Calls::CallOwnGate => own_calls(rt, alloc, terms),
             Calls::Meet => meet_once(rt, alloc, terms),
             Calls::MeetWithoutTicket => meet_without(rt, alloc, terms),
-            Calls::FillJournals => full_calls(rt, alloc, terms),
-            Calls::CallOwnGate => own_calls(rt, alloc, terms),
+            Calls::Play(play) => play.calls(rt, alloc, terms),
         }
     }
 }

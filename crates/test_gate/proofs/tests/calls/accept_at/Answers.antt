@@ -1,5 +1,0 @@
-use Rattle.test_gate.proofs.Filing.{work_stays}
-use Rattle.test_gate.proofs.tests.calls.accept_at.Goals as goal
-
-pub returns-clause-stays : goal.returns-clause-stays
-returns-clause-stays g c = work_stays c.jobs_are_stable.ensures c.args.gate.now c.offer.new.gate c.offer.ensures.leads

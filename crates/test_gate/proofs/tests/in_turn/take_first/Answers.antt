@@ -1,4 +1,0 @@
-use Rattle.test_gate.proofs.tests.in_turn.take_first.Goals as goal
-
-pub returns-clause-at_work : goal.returns-clause-at_work
-returns-clause-at_work g c = c.take_job-one.ensures.at_work
