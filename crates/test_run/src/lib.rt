@@ -2,21 +2,21 @@
 //! crate are proved together with all of its code.
 //!
 //! What a command writes for which texts is shown by the cases of the program. These tests show what
-//! a case can't: writers that fail after any number of bytes, memory that is refused, and threads on
-//! a gate that others use too.
+//! a case can't: the calls of the library, writers that fail after any number of bytes, memory that
+//! is refused, and threads on a gate that others use too.
 #![tactic(auto)]
 
 #[cfg(test)]
-mod check;
+mod commands;
+#[cfg(test)]
+mod fault_lines;
 #[cfg(test)]
 mod reports;
 #[cfg(test)]
-mod run;
-#[cfg(test)]
-mod stop;
+mod runs;
 #[cfg(test)]
 mod testing;
 #[cfg(test)]
 mod threads;
 #[cfg(test)]
-mod value;
+mod writers;

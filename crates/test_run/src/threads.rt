@@ -1,258 +1,343 @@
 //! Runs by several threads, on gates that other callers use too.
+ghost use Rattle.std.specs.Prelude.{◌≡◌};
+
+use crate::reports::{fills_each, is_report};
 use crate::testing::{expects, fail, plan_of, terms_of};
 use claim_gate::{Batch, Terms};
 use crew::{RunFault, run};
-use journals::is_ends_and_close;
+use journal::Event;
+use met::{Case, OtherCaller, calm_run, meets, meets_spinning};
 use std::alloc::Global;
 use std::fmt::Write;
 use std::process::Abort;
 use std::sync::Wait;
 use std::thread::Threads;
 use tables::Plan;
-use test_fixtures::{both_files, header};
+use test_fixtures::{both_files, first_file, header, late_remittance, remittance};
 
-mod hostile;
-mod journals;
-mod later_files;
-mod many_claims;
-mod meeting;
+mod earlier;
 mod met;
-mod refusing;
-mod stopping;
 mod watched;
-
-/// The claims of both files by provider and place, and the number of events of each kind.
-const OUTCOMES_OF_BOTH: &str = "1 0 Paid 100.00 50.00 10.00 8.00 60.00 40.00 OVER
-1 1 Paid 40.00 0.00 10.00 6.00 0.00 40.00 MET
-1 2 Pended(NoRule { table: 1 }) 0.00 0.00 0.00 0.00 0.00 0.00
-1 3 Paid 100.00 0.00 10.00 18.00 0.00 100.00 MET
-2 0 Paid 30.00 30.00 0.00 0.00 30.00 0.00
-2 1 Denied 0.00 0.00 0.00 0.00 0.00 0.00
-accepts 6 takes 6 decides 6 ends 2 closes 1
-";
-
-// A function returns the text, so that its callers are proved without it.
-fn outcomes_of_both() -> &'static str {
-    OUTCOMES_OF_BOTH
-}
 
 fn batch_of<'t, R: Threads + Wait + Abort + Sync>(
     rt: &R,
     alloc: Global,
     terms: &'t Terms,
     workers: usize,
-) -> Batch<'t> {
+) -> Batch<'t>
+    ensures { result.terms ≡ terms.now }
+{
     match run(rt, alloc, terms, workers) {
         Ok(batch) => batch,
         Err(_) => fail(rt, "a run"),
     }
 }
 
-fn is(fault: RunFault, wanted: RunFault) -> bool {
-    fault.number() == wanted.number()
+fn is_resource_fault(fault: RunFault) -> bool {
+    let number = fault.number();
+    number == 2 || number == 3
 }
 
-fn is_wanted_fault(fault: Option<RunFault>, wanted: RunFault) -> bool {
-    match fault {
-        Some(fault) => is(fault, wanted),
-        None => false,
+// A run that is refused memory or a thread reports it. It is tried once more where this may happen.
+fn batch_if_refused<'t, R: Threads + Wait + Abort + Sync>(
+    rt: &R,
+    alloc: Global,
+    terms: &'t Terms,
+    workers: usize,
+    may_be_refused: bool,
+) -> Batch<'t>
+    ensures { result.terms ≡ terms.now }
+{
+    match run(rt, alloc, terms, workers) {
+        Ok(batch) => batch,
+        Err(fault) => {
+            let is_refusal = may_be_refused && is_resource_fault(fault);
+            expects(rt, is_refusal, "a run, or a lack of memory");
+            batch_of(rt, alloc, terms, workers)
+        }
     }
 }
 
-// Without claims, the journal has one end of each provider and the close.
-fn ends_all<R: Threads + Wait + Abort + Sync>(
-    rt: &R,
-    alloc: Global,
-    plan: &Plan,
-    files: &[&[u8]],
-    workers: usize,
-) {
-    let terms = terms_of(rt, alloc, plan, files, None);
-    let batch = batch_of(rt, alloc, &terms, workers);
-    expects(
-        rt,
-        is_ends_and_close(batch.journal(), files.len()),
-        "the ends and the close",
-    );
-    drop(batch);
-    drop(terms);
+fn count_ends(journal: &[Event], wanted: usize) -> usize {
+    let mut count = 0usize;
+    for event in journal {
+        if let Event::End { provider } = event
+            && *provider == wanted
+        {
+            count = count.saturating_add(1);
+        }
+    }
+    count
 }
 
-fn check_headers<R: Threads + Wait + Abort + Sync>(rt: &R, alloc: Global, plan: &Plan) {
-    let one = [header()];
-    ends_all(rt, alloc, plan, &one, 2);
-    let many = [header(); 64];
-    ends_all(rt, alloc, plan, &many, 4);
+// Returns whether a journal has one end of each provider, the close, and no other event.
+fn is_ends_and_close(journal: &[Event], providers: usize) -> bool {
+    for provider in 0..providers {
+        if count_ends(journal, provider.saturating_add(1)) != 1 {
+            return false;
+        }
+    }
+    journal.len() == providers.saturating_add(1) && matches!(journal.last(), Some(Event::Close))
+}
+
+// What a test checks of a finished run.
+#[derive(Clone, Copy)]
+enum Checks {
+    /// The journal has one end of each provider and the close, as it has without claims.
+    Ends,
+    /// The report is this text, into writers that are full.
+    Cut(&'static str),
+    /// The journal has this number of events, and the report is this text, though memory is refused.
+    ThoughRefused(usize, &'static str),
+}
+
+fn check_run<R: Threads + Wait + Abort + Sync>(
+    rt: &R,
+    alloc: Global,
+    terms: &Terms,
+    workers: usize,
+    checks: Checks,
+) {
+    let may_be_refused = matches!(checks, Checks::ThoughRefused(_, _));
+    let batch = batch_if_refused(rt, alloc, terms, workers, may_be_refused);
+    match checks {
+        Checks::Ends => {
+            let ends = is_ends_and_close(batch.journal(), terms.files().len());
+            expects(rt, ends, "the ends and the close");
+        }
+        Checks::Cut(text) => fills_each(rt, alloc, terms, &batch, text),
+        Checks::ThoughRefused(events, text) => {
+            expects(rt, batch.journal().len() == events, "these events");
+            is_report(rt, alloc, terms, &batch, text);
+        }
+    }
+    drop(batch);
 }
 
 // The runs that a test checks.
 #[derive(Clone, Copy)]
 enum Runs {
-    OverHeaders,
-    OverManyClaims,
-    ThoughRefused,
-    OnGates(OnGates),
+    /// A run by this number of workers.
+    By(usize, Checks),
+    Watched(Case),
+    WatchedSpinning(Case),
 }
 
-// Runs over both files on gates that other threads call as well, that wear out, or that refuse or
-// stop at the worst moment.
-#[derive(Clone, Copy)]
-enum OnGates {
-    AllThreads,
-    CalledOff,
-    WorkersMeet,
-    IntakesMeet,
-    LaterFiles,
-    StoppedGate,
-    StoppedOutcomes,
-    RefusedOnce,
-    RefusedTwice,
-}
-
-// Only one function owns the plan of all tests, and only one owns the terms of the tests on gates,
-// because a function that owns one of them is expensive to prove.
-fn check<R: Threads + Wait + Abort + Sync>(rt: &R, alloc: Global, runs: Runs) {
+// Only one function owns the plan of all tests, and only one owns the terms, because a function that
+// owns one of them is expensive to prove.
+fn check<R: Threads + Wait + Abort + Sync>(
+    rt: &R,
+    alloc: Global,
+    files: &[&[u8]],
+    cutoff: Option<u64>,
+    runs: Runs,
+) {
     let plan = plan_of(rt, alloc);
-    match runs {
-        Runs::OverHeaders => check_headers(rt, alloc, &plan),
-        Runs::OverManyClaims => many_claims::check_runs(rt, alloc, &plan),
-        Runs::ThoughRefused => check_refused(rt, alloc, &plan),
-        Runs::OnGates(runs) => check_on_gates(rt, alloc, &plan, runs),
-    }
+    check_under(rt, alloc, &plan, files, cutoff, runs);
     drop(plan);
 }
 
-fn check_on_gates<R: Threads + Wait + Abort + Sync>(
+fn check_under<R: Threads + Wait + Abort + Sync>(
     rt: &R,
     alloc: Global,
     plan: &Plan,
-    runs: OnGates,
+    files: &[&[u8]],
+    cutoff: Option<u64>,
+    runs: Runs,
 ) {
-    let terms = terms_of(rt, alloc, plan, both_files(), None);
+    let terms = terms_of(rt, alloc, plan, files, cutoff);
     match runs {
-        OnGates::AllThreads => hostile::check_all_threads(rt, alloc, &terms),
-        OnGates::CalledOff => hostile::check_called_off(rt, alloc, &terms),
-        OnGates::WorkersMeet => meeting::check_workers(rt, alloc, &terms),
-        OnGates::IntakesMeet => meeting::check_intakes(rt, alloc, &terms),
-        OnGates::LaterFiles => later_files::goes_on(rt, alloc, &terms),
-        OnGates::StoppedGate => stopping::check_stopped_gate(rt, alloc, &terms),
-        OnGates::StoppedOutcomes => stopping::check_stopped_outcomes(rt, alloc, &terms),
-        OnGates::RefusedOnce => refusing::check_refused_once(rt, alloc, &terms),
-        OnGates::RefusedTwice => refusing::check_refused_twice(rt, alloc, plan),
+        Runs::By(workers, checks) => check_run(rt, alloc, &terms, workers, checks),
+        Runs::Watched(case) => meets(rt, alloc, &terms, &case),
+        Runs::WatchedSpinning(case) => meets_spinning(rt, alloc, &terms, &case),
     }
     drop(terms);
+}
+
+// Runs over both files.
+fn check_both<R: Threads + Wait + Abort + Sync>(rt: &R, alloc: Global, runs: Runs) {
+    check(rt, alloc, both_files(), None, runs);
 }
 
 #[test]
 fn a_run_over_a_header_alone(rt: HostRuntime) {
-    check(&rt, rt.alloc(), Runs::OverHeaders);
+    let ends = Runs::By(2, Checks::Ends);
+    check(&rt, rt.alloc(), &[header()], None, ends);
+    let ends = Runs::By(4, Checks::Ends);
+    check(&rt, rt.alloc(), &[header(); 64], None, ends);
 }
 
 #[test]
-fn runs_over_more_claims_than_a_turn_has(rt: HostRuntime) {
-    check(&rt, rt.alloc(), Runs::OverManyClaims);
+fn a_report_is_cut_at_each_length(rt: HostRuntime) {
+    let whole = Checks::Cut(remittance());
+    check_both(&rt, rt.alloc(), Runs::By(2, whole));
+    let late = Runs::By(2, Checks::Cut(late_remittance()));
+    check(&rt, rt.alloc(), both_files(), Some(0), late);
 }
 
 #[test]
-fn a_run_has_an_intake_a_file_and_its_workers(rt: HostRuntime) {
-    check(&rt, rt.alloc(), Runs::OnGates(OnGates::AllThreads));
+fn a_report_of_a_run_though_memory_is_refused(rt: HostRuntime) {
+    let whole = Checks::ThoughRefused(21, remittance());
+    check_both(&rt, rt.alloc(), Runs::By(2, whole));
 }
 
 #[test]
-fn runs_that_others_call_off(rt: HostRuntime) {
-    check(&rt, rt.alloc(), Runs::OnGates(OnGates::CalledOff));
+fn a_report_of_late_claims_though_memory_is_refused(rt: HostRuntime) {
+    let late = Checks::ThoughRefused(1, late_remittance());
+    let late = Runs::By(2, late);
+    check(&rt, rt.alloc(), both_files(), Some(0), late);
 }
 
-#[test]
-fn two_workers_meet(rt: HostRuntime) {
-    check(&rt, rt.alloc(), Runs::OnGates(OnGates::WorkersMeet));
-}
-
-#[test]
-fn two_intakes_meet(rt: HostRuntime) {
-    check(&rt, rt.alloc(), Runs::OnGates(OnGates::IntakesMeet));
-}
-
+// The stop ends a run that would never end, and the test fails then.
 #[test]
 fn intakes_go_on_where_others_are(rt: HostRuntime) {
-    check(&rt, rt.alloc(), Runs::OnGates(OnGates::LaterFiles));
+    let mut case = calm_run(2, remittance());
+    case.other = OtherCaller::AcceptsTwo;
+    case.watch.stop_at_take = 100_000_000;
+    check_both(&rt, rt.alloc(), Runs::Watched(case));
+}
+
+// A run in which as many `take`s and `offer`s as are given meet.
+fn crowds_of(workers: usize, takes: u64, offers: u64) -> Runs {
+    let mut case = calm_run(workers, remittance());
+    case.watch.takes = takes;
+    case.watch.offers = offers;
+    case.wanted.takes = takes;
+    case.wanted.offers = offers;
+    Runs::Watched(case)
+}
+
+// A run has its workers, its caller, and one intake thread for each of the two files.
+#[test]
+fn a_run_has_an_intake_a_file_and_its_workers(rt: HostRuntime) {
+    check_both(&rt, rt.alloc(), crowds_of(1, 2, 2));
+    check_both(&rt, rt.alloc(), crowds_of(4, 5, 2));
+    check_both(&rt, rt.alloc(), crowds_of(64, 65, 2));
+}
+
+// A `take` of the caller meets one of the only worker.
+#[test]
+fn two_workers_meet(rt: HostRuntime) {
+    check_both(&rt, rt.alloc(), crowds_of(1, 2, 0));
+}
+
+// An `offer` of the first provider's intake thread meets one of the second's.
+#[test]
+fn two_intakes_meet(rt: HostRuntime) {
+    let mut case = calm_run(1, remittance());
+    case.watch.offers = 2;
+    case.wanted.offers = 2;
+    case.wanted.providers = 1 + 2;
+    check_both(&rt, rt.alloc(), Runs::Watched(case));
+}
+
+// The intake threads are refused memory twice and stop the gate, but only after the caller and both
+// workers have learned that the run is over. The cutoff ends it without the ends of the providers.
+#[test]
+fn a_run_is_over_before_an_intake_stops_it(rt: HostRuntime) {
+    let mut case = calm_run(2, "");
+    case.watch.overs_before_refused_ends = 3;
+    case.watch.refused_ends = u64::MAX;
+    check(&rt, rt.alloc(), both_files(), Some(6), Runs::Watched(case));
+}
+
+// With two tickets left, the lock wears out.
+#[test]
+fn a_run_wears_its_lock_out(rt: HostRuntime) {
+    let mut case = calm_run(4, "");
+    case.first_ticket = u64::MAX - 2;
+    case.wanted.fault = 4;
+    case.wanted.is_worn = true;
+    check_both(&rt, rt.alloc(), Runs::Watched(case));
 }
 
 #[test]
 fn a_run_on_a_stopped_gate(rt: HostRuntime) {
-    check(&rt, rt.alloc(), Runs::OnGates(OnGates::StoppedGate));
+    let mut case = calm_run(2, "");
+    case.other = OtherCaller::StopsBefore;
+    case.wanted.fault = 5;
+    check_both(&rt, rt.alloc(), Runs::WatchedSpinning(case));
 }
 
 #[test]
+fn a_run_beside_a_caller_that_stops_it(rt: HostRuntime) {
+    let mut case = calm_run(2, remittance());
+    case.other = OtherCaller::StopsBeside;
+    case.wanted.fault = 5;
+    for _ in 0..20 {
+        check_both(&rt, rt.alloc(), Runs::Watched(case));
+    }
+}
+
+// Each outcome that is recorded after the stop comes back with its job.
+#[test]
 fn a_work_s_finish_is_stopped(rt: HostRuntime) {
-    check(&rt, rt.alloc(), Runs::OnGates(OnGates::StoppedOutcomes));
+    let mut case = calm_run(2, "");
+    case.watch.stops_outcomes = true;
+    case.wanted.fault = 5;
+    case.wanted.handed_back = 1;
+    check_both(&rt, rt.alloc(), Runs::Watched(case));
+}
+
+// A run on a gate that refuses its first calls as if memory had run out: this number of `offer`s,
+// `end`s, `take`s and outcomes.
+fn refusals_of(offers: u64, ends: u64, takes: u64, outcomes: u64, fault: u8) -> Runs {
+    let mut case = calm_run(2, remittance());
+    case.watch.refused_offers = offers;
+    case.watch.refused_ends = ends;
+    case.watch.refused_takes = takes;
+    case.watch.refused_outcomes = outcomes;
+    case.wanted.fault = fault;
+    Runs::Watched(case)
 }
 
 #[test]
 fn a_call_refused_memory_is_made_once_more(rt: HostRuntime) {
-    check(&rt, rt.alloc(), Runs::OnGates(OnGates::RefusedOnce));
+    check_both(&rt, rt.alloc(), refusals_of(1, 1, 1, 1, 0));
 }
 
+fn check_first<R: Threads + Wait + Abort + Sync>(rt: &R, alloc: Global, runs: Runs) {
+    check(rt, alloc, &[first_file()], None, runs);
+}
+
+// One file has one intake thread, which makes both refused calls. Several workers share the other
+// calls, so all of them are refused.
 #[test]
 fn a_call_refused_memory_twice_ends_the_run(rt: HostRuntime) {
-    check(&rt, rt.alloc(), Runs::OnGates(OnGates::RefusedTwice));
+    check_first(&rt, rt.alloc(), refusals_of(2, 0, 0, 0, 2));
+    check_first(&rt, rt.alloc(), refusals_of(0, 2, 0, 0, 2));
+    check_first(&rt, rt.alloc(), refusals_of(0, 0, u64::MAX, 0, 2));
+    check_first(&rt, rt.alloc(), refusals_of(0, 0, 0, u64::MAX, 2));
 }
 
-const FAULT_LINES: &str = "1 no worker, or too many workers
-2 out of memory
-3 a thread can't be started
-4 the lock has no ticket left
-5 the run was stopped
-";
+/// The number of claims: one more than a worker takes in one turn, and twice as many as an intake
+/// offers in one.
+const CLAIMS: usize = 2_048 + 1;
 
-fn fault_lines() -> &'static str {
-    FAULT_LINES
-}
-
-fn write_fault(rt: &impl Abort, text: &mut String, fault: RunFault) {
-    let number = fault.number();
-    writeln!(text, "{number} {fault}").expect(rt, "memory for a line");
-}
-
-#[test]
-fn faults_have_numbers_and_texts(rt: HostRuntime) {
-    let mut text = String::new(rt.alloc());
-    write_fault(&rt, &mut text, RunFault::Workers);
-    write_fault(&rt, &mut text, RunFault::OutOfMemory);
-    write_fault(&rt, &mut text, RunFault::Thread);
-    write_fault(&rt, &mut text, RunFault::Worn);
-    write_fault(&rt, &mut text, RunFault::Stopped);
-    expects(&rt, text.as_str() == fault_lines(), "these lines");
-}
-
-fn is_resource_fault(fault: RunFault) -> bool {
-    is(fault, RunFault::OutOfMemory) || is(fault, RunFault::Thread)
-}
-
-// A run that is refused memory or a thread reports it, and is tried once more.
-fn batch_though_refused<'t, R: Threads + Wait + Abort + Sync>(
-    rt: &R,
-    alloc: Global,
-    terms: &'t Terms,
-) -> Batch<'t> {
-    match run(rt, alloc, terms, 2) {
-        Ok(batch) => batch,
-        Err(fault) => {
-            expects(rt, is_resource_fault(fault), "a lack of memory");
-            batch_of(rt, alloc, terms, 2)
-        }
+// Returns a file of claims, of which those of a member are `members` records apart.
+fn file_of(rt: &impl Abort, alloc: Global, members: usize) -> String {
+    let mut text = String::new(alloc);
+    text.push_str("claim,member,service,billed,code")
+        .expect(rt, "memory for a header");
+    for claim in 0..CLAIMS {
+        let member = claim.checked_rem(members).unwrap_or(0);
+        write!(text, "\nc,M{member},2024-01-05,40.00,B").expect(rt, "memory for a record");
     }
+    text
 }
 
-fn check_refused<R: Threads + Wait + Abort + Sync>(rt: &R, alloc: Global, plan: &Plan) {
-    let terms = terms_of(rt, alloc, plan, both_files(), None);
-    let batch = batch_though_refused(rt, alloc, &terms);
-    expects(rt, batch.journal().len() == 21, "21 events");
-    drop(batch);
-    drop(terms);
+// No claim is taken before all are offered, so that the first turn of a worker is full where each
+// claim is another member's.
+fn check_full_turn<R: Threads + Wait + Abort + Sync>(rt: &R, alloc: Global, members: usize) {
+    let text = file_of(rt, alloc, members);
+    let mut case = calm_run(1, "");
+    case.watch.offers_before_takes = CLAIMS as u64;
+    check(rt, alloc, &[text.as_bytes()], None, Runs::Watched(case));
+    drop(text);
 }
 
 #[test]
-fn a_run_though_memory_is_refused(rt: HostRuntime) {
-    check(&rt, rt.alloc(), Runs::ThoughRefused);
+fn runs_over_more_claims_than_a_turn_has(rt: HostRuntime) {
+    check_full_turn(&rt, rt.alloc(), 1);
+    check_full_turn(&rt, rt.alloc(), CLAIMS);
 }

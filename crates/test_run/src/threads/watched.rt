@@ -3,6 +3,7 @@
 
 ghost use Rattle.std.specs.Prelude.{◌≡◌};
 
+use super::met::Met;
 use claim_gate::{
     BoxedOutcome, Counts, DecidedJob, EndFault, Ended, FinishFault, FinishResult, Gate, Job, Offer,
     OfferFault, OfferResult, Refused, Served, TakeFault, Taken, WornOut,
@@ -90,22 +91,19 @@ fn next_number(count: &AtomicU64) -> u64 {
 }
 
 /// The actions of a watched gate besides forwarding calls.
-#[derive(Drop)]
+#[derive(Clone, Copy)]
 pub struct Watch {
     /// The number of `take`s that wait for each other, or 0.
     pub takes: u64,
     /// The number of `offer`s that wait for each other, or 0.
     pub offers: u64,
-    /// Whether another caller stops the gate before the run.
-    pub is_stopped: bool,
     /// The number of the `take`, from 1, at which another caller stops the gate, or 0.
     pub stop_at_take: u64,
     /// Whether another caller stops the gate before each outcome is recorded.
     pub stops_outcomes: bool,
-    /// If this is not 0, another caller ends the first provider before its intake thread does. The
-    /// intake thread is refused memory after this number of `take`s has reported the end of the
-    /// run.
-    pub overs: u64,
+    /// The number of `take`s that must have reported the end of the run before an `end` is refused,
+    /// or 0.
+    pub overs_before_refused_ends: u64,
     /// The number of `offer`s before which no `take` is answered, or 0.
     pub offers_before_takes: u64,
     /// The number of first `offer`s that are refused as if memory had run out. The following fields
@@ -121,10 +119,9 @@ pub fn nothing() -> Watch {
     Watch {
         takes: 0,
         offers: 0,
-        is_stopped: false,
         stop_at_take: 0,
         stops_outcomes: false,
-        overs: 0,
+        overs_before_refused_ends: 0,
         offers_before_takes: 0,
         refused_offers: 0,
         refused_ends: 0,
@@ -138,8 +135,8 @@ pub fn nothing() -> Watch {
 pub struct WatchedGate<G> {
     gate: G,
     watch: Watch,
-    pub takes: Crowd,
-    pub offers: Crowd,
+    takes: Crowd,
+    offers: Crowd,
     offered: AtomicU64,
     ended: AtomicU64,
     taken: AtomicU64,
@@ -175,13 +172,16 @@ impl<G> WatchedGate<G> {
         &self.gate
     }
 
-    /// Returns the number of outcomes that came back with their jobs because the gate was stopped.
-    pub fn handed_back(&self) -> u64 {
-        self.handed_back.load(Ordering::SeqCst)
-    }
-
-    fn is_ended_by_another(&self, provider: usize) -> bool {
-        provider == 1 && self.watch.overs != 0
+    /// Returns what the gate has observed, with the fault of a run.
+    pub fn met(&self, fault: u8, is_worn: bool) -> Met {
+        Met {
+            fault,
+            is_worn,
+            takes: self.takes.most(),
+            offers: self.offers.most(),
+            providers: self.offers.numbers(),
+            handed_back: self.handed_back.load(Ordering::SeqCst),
+        }
     }
 
     fn note_taken(&self, answer: &Result<Taken, TakeFault>) {
@@ -202,7 +202,7 @@ impl<G> WatchedGate<G> {
 }
 
 // A refused call requests the counts of the other gate, which is a critical section without effect.
-// The calls of another caller use a pass that is split off.
+// The gate is stopped by a pass that is split off.
 impl<G: Gate> Gate for WatchedGate<G> {
     type Pass = G::Pass;
 
@@ -247,16 +247,10 @@ impl<G: Gate> Gate for WatchedGate<G> {
         provider: usize,
         count: usize,
     ) -> Result<Served<Result<Ended, EndFault>, G::Pass>, WornOut<G::Pass>> {
-        let is_ended = self.is_ended_by_another(provider);
-        let is_refused = is_ended || next_number(&self.ended) <= self.watch.refused_ends;
-        let (pass, other) = self.gate.split(pass);
-        if is_ended {
-            let _ = self.gate.end(rt, other, provider, count);
-            wait_for(&self.overs, self.watch.overs);
-        }
-        if !is_refused {
+        if next_number(&self.ended) > self.watch.refused_ends {
             return self.gate.end(rt, pass, provider, count);
         }
+        wait_for(&self.overs, self.watch.overs_before_refused_ends);
         match self.gate.counts(rt, pass) {
             Ok(Served { pass, .. }) => Ok(Served {
                 reply: Err(EndFault::OutOfMemory),

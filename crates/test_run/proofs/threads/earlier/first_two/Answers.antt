@@ -1,6 +1,6 @@
 use Rattle.std.proofs.Common.{arith}
 use Rattle.crew.proofs.Lefts.{left_after, left_first, next_claim}
-use Rattle.test_run.proofs.threads.later_files.first_two.Goals as goal
+use Rattle.test_run.proofs.threads.earlier.first_two.Goals as goal
 
 pub returns-clause-first : goal.returns-clause-first
 returns-clause-first g c T is =

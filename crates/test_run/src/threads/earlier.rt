@@ -1,26 +1,19 @@
-//! Runs on a gate that other callers have used before.
+//! A caller that has the first claims of a file accepted before a run.
 
 ghost use Rattle.std.specs.Prelude.{◌≡◌, ◌≤◌, ◌+◌, length, slice_get, Some};
 ghost use Rattle.journal.specs.Terms.{claims_of};
+ghost use Rattle.journal.specs.declared.order.Order.TheVariants.{Any};
 ghost use Rattle.claim_gate.specs.Terms.{ForTerms};
 ghost use Rattle.crew.specs.Sharing.{HasAccepted};
 
-use super::journals::comes_to;
-use super::met::boxed_gate;
-use super::outcomes_of_both;
-use super::watched::{WatchedGate, nothing};
 use crate::testing::{expects, fail};
-use claim_gate::{
-    BoxedClaim, Gate, LockedGate, Offer, SerialGate, Served, Terms, claim_lists_exist,
-};
-use crew::run_with;
+use claim_gate::{BoxedClaim, Gate, Offer, Served, Terms, claim_lists_exist};
 use intake_csv::{Row, given_row_has_the_claim, reader_begins_with_all_rows};
+use journal::Order;
 use settlement::Claim;
 use std::alloc::Global;
 use std::process::Abort;
 use std::sync::Wait;
-use std::thread::Threads;
-use turn_lock::{Section, TicketLock};
 
 // Offers the first provider's claim at a place, which must be accepted. Only claims of this
 // provider were accepted before, so its position is its place.
@@ -34,6 +27,7 @@ fn accept<R: Wait + Abort, G: Gate>(
 ) -> G::Pass
     requires own { G.has_pass gate.now pass }
     requires terms { (G.known pass).seen.terms ≡ terms.now }
+    requires any_order { terms.now.order ≡ Any }
     requires filed { ForTerms terms.now (λ T. slice_get (claims_of T 1) place ≡ Some claim) }
     requires taken { HasAccepted (G.known pass).seen 1 place }
     ensures own { G.has_pass gate.now result }
@@ -91,42 +85,23 @@ fn boxed_claim_of(rt: &impl Abort, alloc: Global, claim: Claim) -> BoxedClaim
     }
 }
 
-// Runs on a gate that has accepted the first provider's first two claims by another pass.
-fn run_later_files<S: Section + Drop + Sync, R: Threads + Wait + Abort + Sync>(
+/// Offers the first two claims of the first provider, which must be accepted.
+pub fn accept_two<R: Wait + Abort, G: Gate>(
     rt: &R,
     alloc: Global,
     terms: &Terms,
-    lock: S,
-    pass: S::Pass,
+    gate: &G,
+    pass: G::Pass,
 )
-where
-    S::Value: SerialGate + Drop + Send + Sync,
-    S::Pass: Send + Drop,
-    requires own { S.has_pass lock pass }
-    requires terms { (S.Value.shown (S.seen pass)).terms ≡ terms.now }
+    requires own { G.has_pass gate.now pass }
+    requires terms { (G.known pass).seen.terms ≡ terms.now }
 {
     let files = terms.files().len();
     assert!(rt; 1 <= files);
-    // The stop ends a run that would never end, and the test fails then.
-    let mut watch = nothing();
-    watch.stop_at_take = 100_000_000;
-    let gate = WatchedGate::over(LockedGate::over(lock), watch);
-    let (mine, theirs) = gate.split(pass);
-    let (first, second) = first_two(rt, alloc, terms);
-    let theirs = accept(rt, terms, &gate, theirs, 0, first);
-    let _ = accept(rt, terms, &gate, theirs, 1, second);
-    let Ok(mine) = run_with(rt, alloc, terms, 2, &gate, mine) else {
-        fail(rt, "a run after others")
+    let Order::Any = terms.order() else {
+        fail(rt, "terms without an order")
     };
-    match gate.inner().retire(rt, mine) {
-        Ok(state) => comes_to(rt, alloc, state.journal(), files, outcomes_of_both()),
-        Err(_) => fail(rt, "the gate of the run"),
-    }
-}
-
-/// Runs on such a gate with a ticket lock.
-pub fn goes_on<R: Threads + Wait + Abort + Sync>(rt: &R, alloc: Global, terms: &Terms) {
-    let state = boxed_gate(rt, alloc, terms);
-    let (lock, pass) = TicketLock::new(alloc, state).expect(rt, "a lock");
-    run_later_files(rt, alloc, terms, lock, pass);
+    let (first, second) = first_two(rt, alloc, terms);
+    let pass = accept(rt, terms, gate, pass, 0, first);
+    let _ = accept(rt, terms, gate, pass, 1, second);
 }

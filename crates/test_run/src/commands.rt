@@ -1,0 +1,214 @@
+//! The commands over writers that are full after any number of bytes, and with memory refused.
+use crate::testing::{expects, expects_at, says};
+use crate::writers::{Narrow, WhenFull, compare_received, is_filled, narrow_writer};
+use adjudicate::{RunInput, Stop, do_check, do_errors_check, do_run, do_value};
+use fixpoint::Out;
+use std::process::Abort;
+use std::sync::Wait;
+use std::thread::Threads;
+use test_fixtures::{both_files, health_plan, remittance};
+use texts::{crossed_plan, errors, gaps, some_errors, two_gaps, values};
+
+mod texts;
+
+/// A command and its input.
+#[derive(Clone, Copy)]
+pub enum Command<'a> {
+    /// The value of a plan with two outputs for two arguments.
+    Value,
+    /// The check of a plan with two gaps.
+    Check,
+    /// The check of a plan with gaps and overlaps, for those that are errors.
+    CheckErrors,
+    /// A run.
+    Run(RunInput<'a>),
+}
+
+fn start<R: Threads + Wait + Sync + AllocGlobal>(
+    rt: &R,
+    command: Command,
+    out: &mut Out<Narrow>,
+) -> Result<(), Stop> {
+    match command {
+        Command::Value => do_value(rt.alloc(), crossed_plan(), &["a=6", "b=1"], out),
+        Command::Check => do_check(rt.alloc(), two_gaps(), out),
+        Command::CheckErrors => do_errors_check(rt.alloc(), some_errors(), out),
+        Command::Run(input) => do_run(rt, input, out),
+    }
+}
+
+/// Returns whether a writer with room for `limit` bytes receives the whole text, or exactly these
+/// first bytes of it.
+pub fn fills<R: Threads + Wait + Abort + Sync + AllocGlobal>(
+    rt: &R,
+    command: Command,
+    limit: usize,
+    width: usize,
+    when_full: WhenFull,
+    text: &str,
+) -> bool {
+    let mut out = narrow_writer(rt, rt.alloc(), limit, width, when_full);
+    let answer = start(rt, command, &mut out);
+    is_filled(answer, out, limit, text.as_bytes())
+}
+
+fn fills_twice<R: Threads + Wait + Abort + Sync + AllocGlobal>(
+    rt: &R,
+    command: Command,
+    limit: usize,
+    width: usize,
+    text: &str,
+) {
+    let fails = fills(rt, command, limit, width, WhenFull::Fails, text);
+    expects_at(rt, fails, limit);
+    let takes_nothing = fills(rt, command, limit, width, WhenFull::TakesNothing, text);
+    expects_at(rt, takes_nothing, limit);
+}
+
+// Tries each room up to that for the whole text.
+fn fills_each<R: Threads + Wait + Abort + Sync + AllocGlobal>(
+    rt: &R,
+    command: Command,
+    width: usize,
+    text: &str,
+) {
+    for limit in 0..=text.len() {
+        fills_twice(rt, command, limit, width, text);
+    }
+}
+
+#[test]
+fn a_full_writer_has_the_first_bytes_of_a_value(rt: HostRuntime) {
+    fills_each(&rt, Command::Value, 1, values());
+    fills_each(&rt, Command::Value, 3, values());
+    fills_each(&rt, Command::Value, 1_024, values());
+}
+
+#[test]
+fn a_full_writer_has_the_first_bytes_of_a_check(rt: HostRuntime) {
+    fills_each(&rt, Command::Check, 1, gaps());
+    fills_each(&rt, Command::Check, 3, gaps());
+    fills_each(&rt, Command::Check, 1_024, gaps());
+    fills_each(&rt, Command::CheckErrors, 1_024, errors());
+}
+
+/// Returns a run of the health plan by four workers.
+pub fn run_of<'a>(files: &'a [&'a [u8]]) -> Command<'a> {
+    Command::Run(RunInput {
+        plan: health_plan().as_bytes(),
+        balances: None,
+        files,
+        cutoff: None,
+        workers: 4,
+    })
+}
+
+#[test]
+fn a_full_writer_has_the_first_bytes_of_a_remittance(rt: HostRuntime) {
+    fills_each(&rt, run_of(both_files()), 1_024, remittance());
+}
+
+/// Limits of writers, in bytes. Each of them is less than the length of the remittance.
+const LIMITS: &[usize] = &[0, 1, 36, 37, 88, 89, 300, 499];
+
+#[test]
+fn a_slow_writer_has_the_first_bytes_of_a_remittance(rt: HostRuntime) {
+    let run = run_of(both_files());
+    for limit in LIMITS {
+        fills_twice(&rt, run, *limit, 7, remittance());
+    }
+    fills_twice(&rt, run, remittance().len(), 7, remittance());
+}
+
+// Returns whether the command has ended with this line and status, and the writer has received
+// these bytes.
+fn is_stopped(
+    answer: Result<(), Stop>,
+    out: Out<Narrow>,
+    bytes: &str,
+    line: &str,
+    status: u8,
+) -> bool {
+    let received = compare_received(out, bytes.as_bytes());
+    let says_so = match answer {
+        Ok(()) => false,
+        Err(stop) => says(&stop, line, status),
+    };
+    says_so && received.is_front && received.count == bytes.len()
+}
+
+/// Requires that the command ends with this line and status, and that a writer with room for
+/// `limit` bytes has then received these bytes.
+pub fn stops<R: Threads + Wait + Abort + Sync + AllocGlobal>(
+    rt: &R,
+    command: Command,
+    limit: usize,
+    bytes: &str,
+    line: &str,
+    status: u8,
+) {
+    let mut out = narrow_writer(rt, rt.alloc(), limit, 1_024, WhenFull::Fails);
+    let answer = start(rt, command, &mut out);
+    expects(rt, out.failed() == (bytes.len() == limit), line);
+    expects(rt, is_stopped(answer, out, bytes, line, status), line);
+}
+
+#[test]
+fn a_write_fault_has_its_line(rt: HostRuntime) {
+    stops(&rt, Command::Check, 5, "gap t", "write fault at 5\n", 3);
+    let front = "provider,record,claim,member,status,r";
+    let run = run_of(both_files());
+    stops(&rt, run, 37, front, "write fault at 37\n", 3);
+}
+
+// A value and a check are made before their first byte is written. If memory runs out in a run, some
+// first bytes may be written; if a thread cannot be started, none are.
+fn lacks_memory(stop: &Stop, count: usize, is_run: bool) -> bool {
+    if says(stop, "no memory\n", 3) {
+        return is_run || count == 0;
+    }
+    is_run && count == 0 && says(stop, "run fault 3\n", 3)
+}
+
+fn is_whole_or_lacks_memory(
+    answer: Result<(), Stop>,
+    out: Out<Narrow>,
+    text: &[u8],
+    is_run: bool,
+) -> bool {
+    let received = compare_received(out, text);
+    let is_told = match answer {
+        Ok(()) => received.count == text.len(),
+        Err(stop) => lacks_memory(&stop, received.count, is_run),
+    };
+    is_told && received.is_front && !received.has_failed
+}
+
+// A test that calls this function runs with each allocation refused in turn. All of them but the
+// writer's are the command's; which of a run's starts a thread differs from run to run.
+fn writes_or_lacks_memory<R: Threads + Wait + Abort + Sync + AllocGlobal>(
+    rt: &R,
+    command: Command,
+    text: &str,
+) {
+    let mut out = narrow_writer(rt, rt.alloc(), text.len(), 1_024, WhenFull::Fails);
+    let answer = start(rt, command, &mut out);
+    let is_run = matches!(command, Command::Run(_));
+    let holds = is_whole_or_lacks_memory(answer, out, text.as_bytes(), is_run);
+    expects(rt, holds, "the text, or a lack of memory");
+}
+
+#[test]
+fn a_value_or_no_memory(rt: HostRuntime) {
+    writes_or_lacks_memory(&rt, Command::Value, values());
+}
+
+#[test]
+fn a_check_or_no_memory(rt: HostRuntime) {
+    writes_or_lacks_memory(&rt, Command::Check, gaps());
+}
+
+#[test]
+fn a_run_or_no_memory(rt: HostRuntime) {
+    writes_or_lacks_memory(&rt, run_of(both_files()), remittance());
+}
