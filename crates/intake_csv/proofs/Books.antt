@@ -182,7 +182,7 @@ pub room_kept : {Y : Type 0} (years : List (BTreeMap (String Y) Members)) (famil
 room_kept years family_years empty once = subst AreOnce (sym (more-books years family_years empty)) (All-push AreOnceIn (books_of years) [] once (record { families = tt; members = All-nil (λ family_year. AreOnceBy bytes_eq family_year.1) }))
 
 -- the book of a year, from its map
-book-at : {Y : Type 0} (years : List (BTreeMap (String Y) Members)) (y : ℕ) (d : BTreeMap (String Y) Members) → y < length years
+pub book-at : {Y : Type 0} (years : List (BTreeMap (String Y) Members)) (y : ℕ) (d : BTreeMap (String Y) Members) → y < length years
     → get_or (books_of years) y [] ≡ book_of (get_or years y d)
 book-at [] y d within = absurd (omega (arith, within))
 book-at (m ∷ ms) zero d within = refl

@@ -21,3 +21,4 @@ pub mod FamilyYears
 pub mod AsciiFields
 pub mod ValidRecords
 pub mod ColumnValues
+pub mod Listing

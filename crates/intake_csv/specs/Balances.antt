@@ -24,6 +24,7 @@ use Rattle.intake_csv.specs.FamilyYears.{AreOnceBy, HasJoined, Members, balance_
 use Rattle.intake_csv.specs.Rows.{HasFault, HasValues, HoldsUnder}
 use Rattle.intake_csv.specs.declared.column.Layout.{Layout}
 use Rattle.intake_csv.specs.declared.entry.Entry.{Entry as ReadEntry}
+use Rattle.intake_csv.specs.declared.entry.OpeningEntry.{OpeningEntry}
 use Rattle.intake_csv.specs.declared.column.Column.{Column}
 use Rattle.faults.specs.declared.file_fault.FileFault.TheVariants as file
 use Rattle.faults.specs.declared.file_fault.RowFault.{RowFault}
@@ -258,6 +259,10 @@ AreBalanceColumns version columns = map (λ c. c.content) columns ≡ map (λ n.
 -- the entry that was read
 abbrev pub entry_of : ReadEntry → Entry
 entry_of read = (record { family = read.family.now; member = read.member.now; year = read.year }, read.balance)
+
+-- the entry of an account, which owns its names
+abbrev pub opening_of : OpeningEntry → Entry
+opening_of held = (record { family = string_bytes held.family; member = string_bytes held.member; year = held.year }, held.balance)
 
 -- the column with this place among the required ones has the value
 abbrev pub HoldsAt : Fields → List Column → ℕ → Value → Type 0

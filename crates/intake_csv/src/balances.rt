@@ -1,9 +1,9 @@
 //! The opening balances of accounts, before their first claim of a run.
-ghost use Rattle.std.specs.Prelude.{◌≡◌, ◌≤◌, ◌<◌, ◌+◌, ◌++◌, ◌∷◌, [], List, length, cond, string_bytes, IfOk, IfErr, OnOk, IsSome, None, Some};
+ghost use Rattle.std.specs.Prelude.{◌≡◌, ◌≤◌, ◌<◌, ◌+◌, ◌++◌, ◌∷◌, [], List, flat_map, length, cond, map, string_bytes, IfOk, IfErr, OnOk, IsSome, None, Some};
 ghost use Rattle.std.specs.Option.{option_and_then, option_copied};
 ghost use Rattle.std.specs.Str.{bytes_eq};
 ghost use Rattle.settlement.specs.Opening.{opening};
-ghost use Rattle.intake_csv.specs.Balances.{AreBalanceColumns, AreBalances, AreOnce, Entry as AnyEntry, Holder as AnyHolder, HasBalanceFault, HoldsEntries, IsRecordFault, IsReportedAt, JoinsIn, TakesEntry, accounts_of, books_of, entry_of, found_in, is_holder, refusal_cause, refusal_of, refusal_place};
+ghost use Rattle.intake_csv.specs.Balances.{AreBalanceColumns, AreBalances, AreOnce, Entry as AnyEntry, Holder as AnyHolder, HasBalanceFault, HoldsEntries, IsRecordFault, IsReportedAt, JoinsIn, TakesEntry, accounts_in, accounts_of, book_of, books_of, entry_of, found_in, is_holder, opening_of, refusal_cause, refusal_of, refusal_place};
 ghost use Rattle.intake_csv.specs.Columns.{balance_columns, year_columns};
 ghost use Rattle.intake_csv.specs.FamilyYears.{AreOnceBy, balance_in, refused_after};
 ghost use Rattle.intake_csv.specs.HeaderedFile.{IsHeaderedFileOf, IsWithin};
@@ -11,7 +11,7 @@ ghost use Rattle.intake_csv.specs.HeaderedFile.{IsHeaderedFileOf, IsWithin};
 use crate::claim::push_family;
 use crate::column::{Content, Layout, RequiredColumn, push_column};
 use crate::csv_record::CsvRecord;
-use crate::entry::{Entry, member_place, met_place, read_entry};
+use crate::entry::{Entry, OpeningEntry, member_place, met_place, read_entry};
 use crate::family_year::{FamilyYear, Refusal};
 use crate::headered_file::{HeaderedFile, read_headered_file};
 use faults::names::{MEMBER, MET, OOP, PAID, YEAR};
@@ -116,6 +116,23 @@ impl Balances {
         }
     }
 
+    /// Returns the entry of each account that has a balance, year by year and family by family.
+    pub fn entries(&self, alloc: Global) -> Result<Vec<OpeningEntry>, AllocError>
+        ensures listed { IfOk result (λ entries. map opening_of entries.items
+            ≡ accounts_of self.now) }
+        ensures once { AreOnce self.now }
+    {
+        let mut entries = Vec::new(alloc);
+        for place in 0..self.years.len() {
+            // The year of an entry is a `u16`, so there are no more years than it counts.
+            let Ok(year) = u16::try_from(place) else {
+                return Err(AllocError);
+            };
+            list_year(alloc, &mut entries, &self.years[place], year)?;
+        }
+        Ok(entries)
+    }
+
     #[tactic(auto, using(crate::proofs::Books::found_within, crate::proofs::Books::found_beyond))]
     fn find(&self, family: &str, year: u16) -> Option<&FamilyYear>
         ensures found { option_copied result ≡ found_in self.now (family.now, year) }
@@ -187,6 +204,22 @@ impl Balances {
         make_room(alloc, &mut self.years, entry.year)?;
         add(&mut self.years, family, entry.year, family_year)
     }
+}
+
+// Appends the entries of the families of a year.
+fn list_year(
+    alloc: Global,
+    entries: &mut Vec<OpeningEntry>,
+    families: &BTreeMap<String, FamilyYear>,
+    year: u16,
+) -> Result<(), AllocError>
+    ensures { OnOk result (map opening_of entries.new.items
+        ≡ map opening_of entries.old.items ++ flat_map (accounts_in year) (book_of families.now)) }
+{
+    for family in families.iter() {
+        family.1.list(alloc, entries, family.0.as_str(), year)?;
+    }
+    Ok(())
 }
 
 // Returns the fault of a refusal, with the number of its column.

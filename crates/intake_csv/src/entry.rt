@@ -2,7 +2,7 @@
 ghost use Rattle.std.specs.Prelude.{◌≡◌, ◌≤◌, ◌<◌, ◌+◌, length, IfOk, IfErr, IfSome, IfNone};
 ghost use Rattle.std.specs.List.{All, Any};
 ghost use Rattle.tables.specs.Plan.{has_families, has_years};
-ghost use Rattle.intake_csv.specs.Balances.{AreBalanceColumns, HoldsBalance, HoldsFamily, HoldsYear, IsEntry, IsKeptUnder, entry_of, entry_values};
+ghost use Rattle.intake_csv.specs.Balances.{AreBalanceColumns, HoldsBalance, HoldsFamily, HoldsYear, IsEntry, IsKeptUnder, entry_of, entry_values, opening_of};
 ghost use Rattle.intake_csv.specs.Columns.{member_place, met_place};
 ghost use Rattle.intake_csv.specs.HeaderedFile.{IsWithin};
 ghost use Rattle.intake_csv.specs.Rows.{AreValues, HasFault};
@@ -24,6 +24,36 @@ pub struct Entry<'r> {
     pub member: &'r str,
     pub year: u16,
     pub balance: Balance,
+}
+
+/// An account with its opening balance, which owns its names.
+#[derive(Drop)]
+pub struct OpeningEntry {
+    pub family: String,
+    pub member: String,
+    pub year: u16,
+    pub balance: Balance,
+}
+
+impl OpeningEntry {
+    /// Copies the names of an account.
+    pub fn new(
+        alloc: Global,
+        family: &str,
+        member: &str,
+        year: u16,
+        balance: Balance,
+    ) -> Result<OpeningEntry, AllocError>
+        ensures { IfOk result (λ entry. opening_of entry
+            ≡ (record { family = family.now; member = member.now; year = year }, balance)) }
+    {
+        Ok(OpeningEntry {
+            family: String::from_str(alloc, family)?,
+            member: String::from_str(alloc, member)?,
+            year,
+            balance,
+        })
+    }
 }
 
 /// Reads a record of a file of balances, and returns its entry or its first fault. A record without

@@ -1,8 +1,10 @@
 //! The opening balances of a family's members in a year.
-ghost use Rattle.std.specs.Prelude.{◌≡◌, ◌∷◌, [], None, OnOk, string_bytes};
+ghost use Rattle.std.specs.Prelude.{◌≡◌, ◌∷◌, ◌++◌, [], None, OnOk, map, string_bytes};
 ghost use Rattle.std.specs.Str.{bytes_eq};
+ghost use Rattle.intake_csv.specs.Balances.{accounts_in, opening_of};
 ghost use Rattle.intake_csv.specs.FamilyYears.{AreOnceBy, HasJoined, balance_in, begins, refused_after, refused_by_sums};
 
+use crate::entry::OpeningEntry;
 use settlement::{Acc, Balance, Money};
 use std::alloc::{AllocError, Global};
 use std::collections::BTreeMap;
@@ -109,6 +111,26 @@ impl FamilyYear {
             }
             Err(_) => Err(AllocError),
         }
+    }
+
+    /// Appends the entries of the members, who are of this family and year.
+    pub fn list(
+        &self,
+        alloc: Global,
+        entries: &mut Vec<OpeningEntry>,
+        family: &str,
+        year: u16,
+    ) -> Result<(), AllocError>
+        ensures { OnOk result (map opening_of entries.new.items
+            ≡ map opening_of entries.old.items ++ accounts_in year (family.now, self.now)) }
+    {
+        let first = self.first.as_str();
+        entries.push(OpeningEntry::new(alloc, family, first, year, self.balance)?)?;
+        for other in self.others.iter() {
+            let member = other.0.as_str();
+            entries.push(OpeningEntry::new(alloc, family, member, year, *other.1)?)?;
+        }
+        Ok(())
     }
 
     #[tactic(auto, using(crate::proofs::FamilyYears::found_first, crate::proofs::FamilyYears::found_after))]

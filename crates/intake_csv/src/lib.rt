@@ -31,6 +31,7 @@ mod validation;
 pub use balances::{Balances, read_balances};
 pub use claim_file::ClaimFile;
 pub use csv_record::CsvRecord;
+pub use entry::OpeningEntry;
 pub use faults::{BalanceFault, FileFault, RowCause, RowFault};
 pub use headered_file::FILE_LIMIT_BYTES;
 pub use laws::{
