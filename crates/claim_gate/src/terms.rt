@@ -1,10 +1,10 @@
 //! Terms: the inputs of a run.
-ghost use Rattle.std.specs.Prelude.{◌≡◌, ◌≤◌, ◌-◌, [], List, get_or, length, IfOk, IfErr};
+ghost use Rattle.std.specs.Prelude.{◌≡◌, ◌≤◌, ◌-◌, [], List, get_or, length, map, IfOk, IfErr};
 ghost use Rattle.std.specs.Option.{unwrap_or};
 ghost use Rattle.claim_gate.specs.TermsFault.{HasTermsFault, IsFaultOfBalances, IsFaultOfFile, IsFaultOfFiles};
 ghost use Rattle.settlement.specs.Accounts.{account_of};
 ghost use Rattle.settlement.specs.Opening.{opening};
-ghost use Rattle.intake_csv.specs.Balances.{accounts_of};
+ghost use Rattle.intake_csv.specs.Balances.{AreOnce, accounts_of, opening_of};
 ghost use Rattle.intake_csv.specs.ClaimFile.{IsFileOf};
 ghost use Rattle.intake_csv.specs.Laws.{LieApart};
 ghost use Rattle.intake_csv.specs.Rows.{AreRowsLeft, AreRowsOf, IsAtStart};
@@ -13,7 +13,7 @@ ghost use Rattle.journal.specs.declared.order.Order.TheVariants.{Any};
 ghost use Rattle.claim_gate.specs.Terms.{AreBalancesOf, AreFilesOf, AreTerms, AreTermsOf, text_in, texts_of};
 
 use faults::TermsFault;
-use intake_csv::{BalanceFault, Balances, ClaimFile, FileFault, Rows, read_balances};
+use intake_csv::{BalanceFault, Balances, ClaimFile, FileFault, OpeningEntry, Rows, read_balances};
 use journal::Order;
 use settlement::{Acc, Claim, account_year};
 use std::alloc::{AllocError, Global};
@@ -166,6 +166,18 @@ impl<'a> Terms<'a> {
                 account_year(self.plan, claim),
             ),
             None => Acc::zero(),
+        }
+    }
+
+    /// Returns the entry of each account that has an opening balance.
+    pub fn opening_entries(&self, alloc: Global) -> Result<Vec<OpeningEntry>, AllocError>
+        ensures listed { IfOk result (λ entries. map opening_of entries.items
+            ≡ accounts_of self.now.balances) }
+        ensures once { AreOnce self.now.balances }
+    {
+        match &self.balances {
+            Some(balances) => balances.entries(alloc),
+            None => Ok(Vec::new(alloc)),
         }
     }
 }
