@@ -3,7 +3,7 @@
 //!
 //! `write_report` writes the remittance of a finished run, and `write_report_by_threads` writes the
 //! same bytes with one more thread for each file after the first. `count_run` counts the records of
-//! a run by their status. The rows come from `intake_csv`, the finished run and its journal come
+//! a run by their status. `Decisions` finds the outcome of each claim. The rows come from `intake_csv`, the finished run and its journal come
 //! from `claim_gate`, and `csv` writes the records.
 //!
 //! Begin with `specs/Records.antt` and `specs/Report.antt`, which define the remittance, and
@@ -21,5 +21,7 @@ mod sections;
 mod sums;
 
 pub use counts::{FileCounts, RecordCounts, RecordStatus, RefusalCount, RunCounts, count_run};
+pub use decisions::Decisions;
 pub use faults::{WriteCause, WriteFault};
+pub use record::{push_family, push_money, push_year};
 pub use report::{write_report, write_report_by_threads};

@@ -189,7 +189,8 @@ fn push_whose(
     push_year(line, has_years(version), year)
 }
 
-fn push_family(line: &mut ByteRecord, families: bool, family: &[u8]) -> Result<(), AllocError>
+/// Appends the family, if the plan keeps accumulators for families.
+pub fn push_family(line: &mut ByteRecord, families: bool, family: &[u8]) -> Result<(), AllocError>
     ensures { OnOk result (Pushes line.old line.new (family_fields families family.now)) }
 {
     if families {
@@ -199,7 +200,8 @@ fn push_family(line: &mut ByteRecord, families: bool, family: &[u8]) -> Result<(
     }
 }
 
-fn push_year(line: &mut ByteRecord, keeps_years: bool, year: &[u8]) -> Result<(), AllocError>
+/// Appends the benefit year, if the plan keeps accumulators by benefit year.
+pub fn push_year(line: &mut ByteRecord, keeps_years: bool, year: &[u8]) -> Result<(), AllocError>
     ensures { OnOk result (Pushes line.old line.new (year_fields keeps_years year.now)) }
 {
     if keeps_years {
@@ -336,7 +338,8 @@ fn push_number(line: &mut ByteRecord, number: usize) -> Result<(), AllocError>
     line.push_field(Buffer::new().format(number).as_bytes())
 }
 
-fn push_money(line: &mut ByteRecord, money: Money) -> Result<(), AllocError>
+/// Appends an amount of money, with two decimals.
+pub fn push_money(line: &mut ByteRecord, money: Money) -> Result<(), AllocError>
     ensures { OnOk result (Pushes line.old line.new (money_text money ∷ [])) }
 {
     let mut buffer = [0; 24];
