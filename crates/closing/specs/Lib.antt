@@ -1,0 +1,6 @@
+pub mod Entries
+pub mod Charges
+pub mod Closing
+pub mod Text
+pub mod CarryingOn
+pub mod ReadingBack
