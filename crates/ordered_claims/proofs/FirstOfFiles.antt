@@ -1,5 +1,5 @@
 -- The first of the files' next claims, file by file.
-use Rattle.std.proofs.Common.{◌≡◌, ◌<◌, ◌≤◌, ◌<ℤ◌, ◌+◌, ◌≤ℤ◌, ℕ, ℤ, Bool, true, false, not, T, int_lt, List, get_or, length, slice_get, Option, Some, None, refl, sym, ap, subst, ◌∙◌, inl, inr, arith}
+use Rattle.std.proofs.Common.{◌≡◌, ◌<◌, ◌≤◌, ◌<ℤ◌, ◌+◌, ◌≤ℤ◌, ℕ, ℤ, Bool, true, false, not, T, int_lt, List, get_or, length, slice_get, Option, Some, None, option_map, refl, sym, ap, subst, ◌∙◌, inl, inr, arith}
 use Rattle.std.specs.Int.Signed.{lt_z_no, lt_z_yes}
 use Rattle.std.proofs.lemmas.Bool.{both_ways, cases_eq}
 use Rattle.std.proofs.lemmas.Int.{ints, by_lt_z}
@@ -9,7 +9,7 @@ use Rattle.journal.specs.declared.order.Order.{Order}
 use Rattle.journal.specs.declared.order.Order.TheVariants.{Any, Files, Service}
 use Rattle.ordered_claims.specs.FirstHead.{ComesFirst, HasHead, IsFirstOf, MayPrecede, is_sooner}
 use Rattle.ordered_claims.specs.declared.heads.Head.{Head}
-use Rattle.ordered_claims.specs.declared.open_file.OpenFile.{OpenFile}
+use Rattle.ordered_claims.specs.declared.file_queue.FileQueue.{FileQueue}
 
 -- the answer of a comparison
 is_less : (a b : ℤ) → int_lt a b ≡ true → a <ℤ b
@@ -44,14 +44,18 @@ first_of_itself Any i day = tt
 first_of_itself Files i day = omega arith
 first_of_itself Service i day = inr (refl, omega arith)
 
+-- the first claim in a queue
+abbrev pub first_claim : FileQueue → Option Claim
+first_claim queue = slice_get queue.claims.items 0
+
 -- the next claim of a file is one
-one_head : (files : List OpenFile) (i j : ℕ) (a b : Claim) → i ≡ j → HasHead files i a → HasHead files j b → a ≡ b
+one_head : (files : List FileQueue) (i j : ℕ) (a b : Claim) → i ≡ j → HasHead files i a → HasHead files j b → a ≡ b
 one_head files i j a b same at_i at_j =
     let there : slice_get files j ≡ Some at_i.file = ap (slice_get files) (sym same) ∙ at_i.there in
     let file : at_i.file ≡ at_j.file = same_Some at_i.file at_j.file (sym there ∙ at_j.there) in
-    same_Some a b (sym at_i.next ∙ ap (λ (f : OpenFile). f.next) file ∙ at_j.next)
+    same_Some a b (sym at_i.next ∙ ap first_claim file ∙ at_j.next)
 
-module _ (order : Order) (files : List OpenFile) (n : ℕ) where
+module _ (order : Order) (files : List FileQueue) (n : ℕ) where
   -- a file without a claim changes nothing
   pub none_here : (first : Option Head) → ((claim : Claim) → ¬ HasHead files n claim) → IsFirstOf order files n first → IsFirstOf order files (n + 1) first
   none_here None none is = λ index claim within has. elim (cases_eq index n) [
@@ -119,11 +123,32 @@ module _ (order : Order) (files : List OpenFile) (n : ℕ) where
     ];
   }
 
--- the next claim of the file that is read at an index
-pub head_read : (files : List OpenFile) (n : ℕ) (read : OpenFile) (claim : Claim) → n < length files → read ≡ get_or files n read → read.next ≡ Some claim → HasHead files n claim
-head_read files n read claim within at next = record { file = read; there = slice_get_read files (length files) n read refl within at; next = next }
+-- the first claim in the queue that is read at an index, by its day
+pub record HeadOn (files : List FileQueue) (n : ℕ) (day : ℤ) : Type 0 where
+  pub claim : Claim
+  pub has : HasHead files n claim
+  pub day_is : day ≡ claim.service
 
-pub none_read : (files : List OpenFile) (n : ℕ) (read : OpenFile) → n < length files → read ≡ get_or files n read → read.next ≡ None → (claim : Claim) → ¬ HasHead files n claim
-none_read files n read within at next claim has =
+some_day : (first : Option Claim) (day : ℤ) → Some day ≡ option_map (λ (c : Claim). c.service) first → (claim : Claim) × (first ≡ Some claim) × (day ≡ claim.service)
+some_day None day is = absurd (none-some day (sym is))
+some_day (Some claim) day is = (claim, refl, same_Some day claim.service is)
+
+no_day : (first : Option Claim) → None ≡ option_map (λ (c : Claim). c.service) first → (claim : Claim) → ¬ (first ≡ Some claim)
+no_day None is claim some = none-some claim some
+no_day (Some other) is claim some = none-some other.service is
+
+pub head_read : (files : List FileQueue) (n : ℕ) (read : FileQueue) (day : ℤ) → n < length files → read ≡ get_or files n read
+    → Some day ≡ option_map (λ (c : Claim). c.service) (first_claim read) → HeadOn files n day
+head_read files n read day within at is =
+    let first = some_day (first_claim read) day is in
+    record {
+      claim = first.0;
+      has = record { file = read; there = slice_get_read files (length files) n read refl within at; next = first.1 };
+      day_is = first.2;
+    }
+
+pub none_read : (files : List FileQueue) (n : ℕ) (read : FileQueue) → n < length files → read ≡ get_or files n read → None ≡ option_map (λ (c : Claim). c.service) (first_claim read)
+    → (claim : Claim) → ¬ HasHead files n claim
+none_read files n read within at is claim has =
     let file : has.file ≡ read = same_Some has.file read (sym has.there ∙ slice_get_read files (length files) n read refl within at) in
-    none-some claim (sym next ∙ ap (λ (f : OpenFile). f.next) (sym file) ∙ has.next)
+    no_day (first_claim read) is claim (ap first_claim (sym file) ∙ has.next)

@@ -12,9 +12,10 @@ use Rattle.journal.specs.declared.event.Event.{Event}
 use Rattle.journal.specs.declared.order.Order.{Order}
 use Rattle.journal.specs.declared.order.Order.TheVariants.{Any, Files, Service}
 use Rattle.ordered_claims.specs.FirstHead.{ComesFirst, HasHead, MayPrecede}
-use Rattle.ordered_claims.specs.Kept.{AreGiven, given_in}
+use Rattle.ordered_claims.specs.Kept.{AreGiven, AreStocked, given_in}
+use Rattle.ordered_claims.specs.Queued.{IsQueueAt, IsStocked}
 use Rattle.ordered_claims.specs.declared.heads.Head.{Head}
-use Rattle.ordered_claims.specs.declared.open_file.OpenFile.{OpenFile}
+use Rattle.ordered_claims.specs.declared.file_queue.FileQueue.{FileQueue}
 use Rattle.ordered_claims.proofs.Lists.{item_within, past_end}
 
 -- what comes first by index and day comes first in the order
@@ -60,54 +61,65 @@ counted_in (f ∷ claims) (suc n) filed there =
     omega (arith, fewer, front, whole)
 
 -- the number of claims given of the file at an index
-pub given_at : (files : List OpenFile) (i : ℕ) (file : OpenFile) → slice_get files i ≡ Some file → get_or (given_in files) i 0 ≡ file.given
+pub given_at : (files : List FileQueue) (i : ℕ) (file : FileQueue) → slice_get files i ≡ Some file → get_or (given_in files) i 0 ≡ file.given
 given_at [] i file there = absurd (none-some file there)
-given_at (f ∷ files) zero file there = ap (λ (f : OpenFile). f.given) (same_Some f file there)
+given_at (f ∷ files) zero file there = ap (λ (f : FileQueue). f.given) (same_Some f file there)
 given_at (f ∷ files) (suc i) file there = given_at files i file there
 
+-- a stocked queue has a claim if the file has more claims than are given
+pub some_queued : (T : Terms) (provider : ℕ) (queue : FileQueue) → IsQueueAt T provider queue → IsStocked queue → queue.given < length (claims_of T provider)
+    → 0 < length queue.claims.items
+some_queued T provider queue is (inl some) more = some
+some_queued T provider queue is (inr over) more =
+    let last = is.last over in
+    omega (arith, last, more)
+
 -- the file of a provider, with its next claim
-record HeadOf (files : List OpenFile) (provider : ℕ) : Type 0 where
+record HeadOf (files : List FileQueue) (provider : ℕ) : Type 0 where
   pub index : ℕ
   pub within : index < length files
   pub number : provider ≡ suc index
   pub claim : Claim
   pub has : HasHead files index claim
 
-module _ (order : Order) (T : Terms) (files : List OpenFile) (given : AreGiven order T files) where
-  pub counted_at : (i : ℕ) (file : OpenFile) → slice_get files i ≡ Some file → filed_count (suc i) given.claims ≡ file.given
+module _ (order : Order) (T : Terms) (files : List FileQueue) (given : AreGiven order T files) where
+  pub counted_at : (i : ℕ) (file : FileQueue) → slice_get files i ≡ Some file → filed_count (suc i) given.claims ≡ file.given
   counted_at i file there = given.counted (suc i) ∙ given_at files i file there
 
   -- a file's next claim is the one after the given ones
   claim_at : (i : ℕ) (claim : Claim) → HasHead files i claim → slice_get (claims_of T (suc i)) (filed_count (suc i) given.claims) ≡ Some claim
-  claim_at i claim has = ap (slice_get (claims_of T (suc i))) (counted_at i has.file has.there) ∙ sym (given.at i has.file has.there).next ∙ has.next
+  claim_at i claim has =
+      let next = (given.at i has.file has.there).claims.each 0 claim has.next in
+      let place : filed_count (suc i) given.claims ≡ has.file.given + 0 = omega (arith, counted_at i has.file has.there) in
+      ap (slice_get (claims_of T (suc i))) place ∙ next
 
   -- a file that has more claims has a next claim
-  head_of : length files ≡ length T.files → (provider : ℕ) → IsInFile T.files (following_claim given.claims provider) → HeadOf files provider
-  head_of as_many zero there = absurd (omega (arith, there))
-  head_of as_many (suc i) there =
+  head_of : length files ≡ length T.files → AreStocked files → (provider : ℕ) → IsInFile T.files (following_claim given.claims provider) → HeadOf files provider
+  head_of as_many stocked zero there = absurd (omega (arith, there))
+  head_of as_many stocked (suc i) there =
       let more : filed_count (suc i) given.claims < length (claims_of T (suc i)) = there in
       elim (cases_lt i (length files)) [
         | inl within ↦
             let file = item_within files i within in
             let is = given.at i file.item file.there in
             let count = counted_at i file.item file.there in
-            let next = item_within (claims_of T (suc i)) file.item.given (omega (arith, more, count)) in
-            record { index = i; within = within; number = refl; claim = next.item; has = record { file = file.item; there = file.there; next = is.next ∙ next.there } }
+            let next = item_within file.item.claims.items 0 (some_queued T (suc i) file.item is (stocked i file.item file.there) (omega (arith, more, count))) in
+            record { index = i; within = within; number = refl; claim = next.item; has = record { file = file.item; there = file.there; next = next.there } }
         | inr past ↦
             let none : length (claims_of T (suc i)) ≡ 0 = ap length (past_end T.files i [] (omega (arith, past, as_many))) in
             absurd (omega (arith, more, none))
       ]
 
   -- the first of the files' next claims is the next one in the order
-  pub next_in_order : (head : Head) → length files ≡ length T.files → ComesFirst order files (length files) head
+  pub next_in_order : (head : Head) → length files ≡ length T.files → AreStocked files → ComesFirst order files (length files) head
       → IsNextInOrder order T.files given.claims (following_claim given.claims (suc head.index))
-  next_in_order head as_many is =
+  next_in_order head as_many stocked is =
       let own = claim_at head.index is.claim is.has in
       record {
         follows = refl;
         there = slice_get_within (claims_of T (suc head.index)) (filed_count (suc head.index) given.claims) is.claim own;
         first = λ provider in_file.
-            let other = head_of as_many provider in_file in
+            let other = head_of as_many stocked provider in_file in
             let first = subst (λ (day : ℤ). MayPrecede order head.index day other.index other.claim.service) is.day (is.first other.index other.claim other.within other.has) in
             subst (λ (q : ℕ). MayComeFirst order T.files (following_claim given.claims (suc head.index)) (following_claim given.claims q)) (sym other.number)
             (may_come order T.files given.claims head.index other.index is.claim other.claim own (claim_at other.index other.claim other.has) first);

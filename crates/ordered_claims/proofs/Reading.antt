@@ -1,5 +1,5 @@
 -- The remaining claims of a provider's file, as its rows are read.
-use Rattle.std.proofs.Common.{◌≡◌, ℕ, zero, suc, ◌<◌, ◌≤◌, ◌+◌, ◌-◌, ◌^◌, List, [], ◌∷◌, ◌++◌, drop, length, get_or, slice_get, IsSome, Option, Some, None, refl, sym, ap, subst, ◌∙◌, arith}
+use Rattle.std.proofs.Common.{◌≡◌, ℕ, zero, suc, true, false, ◌<◌, ◌≤◌, ◌+◌, ◌-◌, ◌^◌, List, [], ◌∷◌, ◌++◌, drop, length, length-append, get_or, slice_get, Some, None, refl, sym, ap, subst, ◌∙◌, arith}
 use Rattle.std.specs.List.{AllZip}
 use Rattle.std.proofs.lemmas.Bool.{false≢true}
 use Rattle.std.proofs.lemmas.List.{drop-drop}
@@ -14,9 +14,9 @@ use Rattle.intake_csv.specs.declared.rows.Row.{Row}
 use Rattle.intake_csv.specs.declared.rows.Row.TheVariants.{Good, Bad}
 use Rattle.journal.specs.Terms.{Terms, claims_of}
 use Rattle.claim_gate.specs.Terms.{AreClaimsOf, IsTermsOf, TermsParts}
-use Rattle.ordered_claims.specs.ReadAhead.{AreClaimsLeft, GivesClaim, IsFileAt, IsPlaced, ReadsClaim, SkipsTo, held}
-use Rattle.ordered_claims.specs.declared.open_file.OpenFile.{OpenFile}
-use Rattle.ordered_claims.proofs.Lists.{first_after}
+use Rattle.ordered_claims.specs.ReadAhead.{AreClaimsLeft, IsPlaced, IsSound, Reads, ReadsAhead, ReadsClaim, SkipsTo, reached}
+use Rattle.ordered_claims.specs.declared.file_reader.FileReader.{FileReader}
+use Rattle.ordered_claims.proofs.Lists.{each_more, first_after, no_longer, nothing_after}
 
 -- the claims of the file at a place are those of the text at the place
 at_place : (names : List InputData) (texts : List (List ℕ)) (files : List (List Claim)) (i : ℕ) → AllZip (AreClaimsOf names) texts files → i < length texts
@@ -100,61 +100,125 @@ read_none law start old new skips fits none over = rw over (record {
   fewer = omega (arith, skips.fewer);
 })
 
--- a file is opened when its first claim is read
-pub opened : StartHasTheRows → (parts : TermsParts) (T : Terms) (provider : ℕ) (left new : RowsLeft) (claim : Option Claim) → IsTermsOf parts T → 1 ≤ provider
-    → provider ≤ length parts.files → IsAtStart parts.plan.names (get_or parts.files (provider - 1) []) left → ReadsClaim left new claim
-    → IsFileAt T provider (record { rows = new; next = claim; given = 0 })
-opened law parts T provider left new claim terms least most start reads =
-    let both = reads.first (claims_of T provider) (start_left law parts T provider left terms least most start) in
-    record { next = both.0; others = both.1; most = omega arith }
-
-pub opened_placed : (left new : RowsLeft) (claim : Option Claim) → left.place ≡ 0 → ReadsClaim left new claim
-    → IsPlaced (record { rows = new; next = claim; given = 0 })
-opened_placed left new claim start reads = record { place = omega (arith, start, reads.place); within = reads.within; fits = reads.fits }
-
--- a file gives the claim that was read ahead, and has read the one after it
-pub gave : (old : OpenFile) (new : RowsLeft) (claim : Claim) (following : Option Claim) → IsPlaced old → old.next ≡ Some claim → ReadsClaim old.rows new following
-    → GivesClaim old (record { rows = new; next = following; given = old.given + 1 }) claim
-gave old new claim following placed own reads =
-    let one : held old.next ≡ 1 = ap held own in
+-- a new reader is at the first claim of its file
+pub opened : StartHasTheRows → (parts : TermsParts) (provider : ℕ) (reader : FileReader) → 1 ≤ provider → provider ≤ length parts.files
+    → IsAtStart parts.plan.names (get_or parts.files (provider - 1) []) reader.rows → reader.taken ≡ 0 → reader.ahead.items ≡ [] → reader.is_over ≡ false
+    → IsSound parts provider reader
+opened law parts provider reader least most start none empty more =
+    let long : length reader.ahead.items ≡ 0 = ap length empty in
+    let nothing : reached reader ≡ 0 = omega (arith, none, long) in
     record {
-      own = own;
-      given = refl;
-      placed = record { place = omega (arith, placed.place, one, reads.place); within = reads.within; fits = reads.fits };
-      at = λ T provider is.
-          let claims = claims_of T provider in
-          let both = reads.first (drop (old.given + 1) claims) is.others in
-          let there : slice_get claims old.given ≡ Some claim = sym is.next ∙ own in
-          let within = slice_get_within claims old.given claim there in
-          record {
-            next = both.0 ∙ first_after (old.given + 1) claims;
-            others = subst (λ cs. AreClaimsLeft new cs) (drop-drop 1 (old.given + 1) claims) both.1;
-            most = omega (arith, within);
-          };
-      fewer = omega (arith, one, reads.fewer);
+      placed = record { place = omega (arith, start.place, none, long); within = omega (arith, start.place, start.number); fits = omega (arith, start.place) };
+      at = λ T terms. record {
+        ahead = record {
+          each = λ k claim there. absurd (none-some claim (subst (λ piece. slice_get piece k ≡ Some claim) empty there));
+          most = omega (arith, none, long);
+        };
+        others = subst (λ n. AreClaimsLeft reader.rows (drop n (claims_of T provider))) (sym nothing) (start_left law parts T provider reader.rows terms least most start);
+        over = λ is. absurd (false≢true (sym more ∙ is));
+      };
     }
 
--- the place after the claim that is read ahead is less than 2^64
-pub room : (file : OpenFile) (claim : Claim) → IsPlaced file → file.next ≡ Some claim → file.given + 1 < 2 ^ 64
-room file claim placed own =
-    let one : held file.next ≡ 1 = ap held own in
-    omega (arith, one, placed.place, placed.fits)
+-- the reader has read its next claim
+pub one_read : (old new : FileReader) (claim : Claim) → old.has_failed ≡ false → new.has_failed ≡ false → new.is_over ≡ false → ReadsClaim old.rows new.rows (Some claim)
+    → new.ahead.items ≡ old.ahead.items ++ claim ∷ [] → new.taken ≡ old.taken → Reads old new
+one_read old new claim worked works more reads pushed taken =
+    let long : length new.ahead.items ≡ length old.ahead.items + 1 = ap length pushed ∙ length-append old.ahead.items (claim ∷ []) in
+    let further : reached new ≡ reached old + 1 = omega (arith, long, taken) in
+    record {
+      worked = worked;
+      works = works;
+      placed = λ placed. record { place = omega (arith, placed.place, reads.place, further); within = reads.within; fits = reads.fits };
+      at = λ T provider is.
+          let claims = claims_of T provider in
+          let both = reads.first (drop (reached old) claims) is.others in
+          let there : slice_get claims (reached old) ≡ Some claim = sym (first_after (reached old) claims) ∙ sym both.0 in
+          let within = slice_get_within claims (reached old) claim there in
+          let each = each_more (λ k c. slice_get claims (old.taken + k) ≡ Some c) old.ahead.items claim there is.ahead.each in
+          record {
+            ahead = record {
+              each = λ k c at.
+                  let own : slice_get (old.ahead.items ++ claim ∷ []) k ≡ Some c = subst (λ piece. slice_get piece k ≡ Some c) pushed at in
+                  subst (λ n. slice_get claims (n + k) ≡ Some c) (sym taken) (each k c own);
+              most = omega (arith, within, further);
+            };
+            others = subst (λ n. AreClaimsLeft new.rows (drop n claims)) (sym further)
+                (subst (λ cs. AreClaimsLeft new.rows cs) (drop-drop 1 (reached old) claims) both.1);
+            over = λ over. absurd (false≢true (sym more ∙ over));
+          };
+      fewer = omega (arith, long, reads.fewer);
+    }
 
--- the claim that is read ahead is held
-held_one : (next : Option Claim) → IsSome next → held next ≡ 1
-held_one None some = absurd (false≢true some)
-held_one (Some claim) some = refl
+-- the reader has found that no claim is left
+pub over_read : (old new : FileReader) → old.has_failed ≡ false → new.has_failed ≡ false → ReadsClaim old.rows new.rows None → new.ahead.items ≡ old.ahead.items → new.taken ≡ old.taken
+    → Reads old new
+over_read old new worked works reads items taken =
+    let long : length new.ahead.items ≡ length old.ahead.items = ap length items in
+    let stays : reached new ≡ reached old = omega (arith, long, taken) in
+    record {
+      worked = worked;
+      works = works;
+      placed = λ placed. record { place = omega (arith, placed.place, reads.place, stays); within = reads.within; fits = reads.fits };
+      at = λ T provider is.
+          let claims = claims_of T provider in
+          let both = reads.first (drop (reached old) claims) is.others in
+          let none : slice_get claims (reached old) ≡ None = sym (first_after (reached old) claims) ∙ sym both.0 in
+          let all : length claims ≤ reached old = no_longer claims (reached old) none in
+          let most = is.ahead.most in
+          let left : drop 1 (drop (reached old) claims) ≡ drop (reached old) claims = nothing_after (reached old) claims all in
+          record {
+            ahead = record {
+              each = λ k c at.
+                  let own : slice_get old.ahead.items k ≡ Some c = subst (λ piece. slice_get piece k ≡ Some c) items at in
+                  subst (λ n. slice_get claims (n + k) ≡ Some c) (sym taken) (is.ahead.each k c own);
+              most = omega (arith, most, stays);
+            };
+            others = subst (λ n. AreClaimsLeft new.rows (drop n claims)) (sym stays) (subst (λ cs. AreClaimsLeft new.rows cs) left both.1);
+            over = λ over. omega (arith, all, stays);
+          };
+      fewer = omega (arith, long, reads.fewer);
+    }
 
--- the number of given claims has room for one more
-pub room_there : (file : OpenFile) → IsPlaced file → IsSome file.next → file.given + 1 < 2 ^ 64
-room_there file placed some =
-    let one : held file.next ≡ 1 = held_one file.next some in
-    omega (arith, one, placed.place, placed.fits)
+-- a reader that reads nothing has read ahead
+pub reads_nothing : (reader : FileReader) → ReadsAhead reader reader
+reads_nothing reader = record {
+  taken = refl;
+  reads = λ works. record { worked = works; works = works; placed = λ placed. placed; at = λ T provider is. is; fewer = omega arith };
+}
 
--- a claim that is there is not missing
-pub not_missing : (next : Option Claim) → IsSome next → next ≡ None → ⊥
-not_missing None some none = false≢true some
-not_missing (Some claim) some none = none-some claim (sym none)
+-- a reader that fails has taken nothing
+pub reads_failed : (old new : FileReader) → new.taken ≡ old.taken → new.has_failed ≡ true → ReadsAhead old new
+reads_failed old new taken failed = record { taken = taken; reads = λ works. absurd (false≢true (sym works ∙ failed)) }
+
+-- a reader goes on to read ahead
+pub reads_further : (a b c : FileReader) → ReadsAhead a b → ReadsAhead b c → ReadsAhead a c
+reads_further a b c first second = record {
+  taken = second.taken ∙ first.taken;
+  reads = λ works.
+      let later = second.reads works in
+      let earlier = first.reads later.worked in
+      record {
+        worked = earlier.worked;
+        works = works;
+        placed = λ placed. later.placed (earlier.placed placed);
+        at = λ T provider is. later.at T provider (earlier.at T provider is);
+        fewer = omega (arith, earlier.fewer, later.fewer);
+      };
+}
+
+-- a reader that works after it has read ahead is placed
+pub placed_after : (old new : FileReader) → (old.has_failed ≡ false → IsPlaced old) → ReadsAhead old new → new.has_failed ≡ false → IsPlaced new
+placed_after old new placed ahead works =
+    let reads = ahead.reads works in
+    reads.placed (placed reads.worked)
+
+-- a reader that works after it has read ahead is sound
+pub sound_after : (terms : TermsParts) (provider : ℕ) (old new : FileReader) → (old.has_failed ≡ false → IsSound terms provider old) → ReadsAhead old new → new.has_failed ≡ false
+    → IsSound terms provider new
+sound_after terms provider old new sound ahead works =
+    let reads = ahead.reads works in
+    let before = sound reads.worked in
+    record { placed = reads.placed before.placed; at = λ T is. reads.at T provider (before.at T is) }
 
 -- before its first record is read a reader has passed nothing
 pub skips_none : (start : RowsLeft) → start.place < start.number → SkipsTo start start

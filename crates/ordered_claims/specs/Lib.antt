@@ -1,4 +1,5 @@
 pub mod OrderedParts
 pub mod ReadAhead
+pub mod Queued
 pub mod FirstHead
 pub mod Kept

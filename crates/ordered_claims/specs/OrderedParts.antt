@@ -7,13 +7,29 @@ use Rattle.journal.specs.declared.event.Event.{Event}
 use Rattle.claim_gate.specs.Replies.{HasClaims, IsFiled}
 use Rattle.claim_gate.specs.Terms.{ForTerms, TermsParts}
 use Rattle.claim_gate.specs.declared.offer.Offer.{Offer}
+use Rattle.ordered_claims.specs.declared.next_claim.NextClaim.{NextClaim}
+use Rattle.ordered_claims.specs.declared.next_claim.NextClaim.TheVariants.{Given, Unread, NoneLeft}
 
--- the terms, the number of claims given of each provider, and the number of records that are not read
--- yet or whose claims are not given yet
+-- the terms, the number of claims given of each provider, the number of those given or read to be
+-- given next, and the number of records that are not read yet or whose claims are not given yet; where
+-- others read, only the records whose claims are read count
 pub record OrderedParts : Type 0 where
   pub terms : TermsParts
   pub given : List ℕ
+  pub read : List ℕ
   pub left : ℕ
+
+-- the readers of all files: the terms, the number of claims taken from the reader of each provider's
+-- file, and the number of records that are not read yet or whose claims are not taken yet
+pub record ReaderParts : Type 0 where
+  pub terms : TermsParts
+  pub taken : List ℕ
+  pub left : ℕ
+
+-- the readers go on after the claims that are given or read to be given next
+pub record AreJoined (claims : OrderedParts) (readers : ReaderParts) : Type 0 where
+  pub terms : readers.terms ≡ claims.terms
+  pub taken : readers.taken ≡ claims.read
 
 -- the number of a provider in a list of numbers by provider; providers count from 1
 abbrev pub count_of : List ℕ → ℕ → ℕ
@@ -52,3 +68,17 @@ GivesNext old new None =
     (new.terms ≡ old.terms) × ((provider : ℕ) → given_of new provider ≡ given_of old provider)
     × ((provider : ℕ) → 1 ≤ provider → provider ≤ length old.terms.files → ForTerms old.terms (λ T. HasClaims T provider (given_of old provider)))
 GivesNext old new (Some offer) = IsNextOffer old new offer
+
+-- what is given of the claims that are read: the next offer, none because the next claim may not be
+-- read yet, or none because all claims of all files are given
+abbrev pub GivesRead : OrderedParts → OrderedParts → NextClaim → Type 0
+GivesRead old new (Given offer) = IsNextOffer old new offer × (new.read ≡ old.read)
+GivesRead old new Unread = new ≡ old
+GivesRead old new NoneLeft = (new ≡ old) × GivesNext old new None
+
+-- claims that the readers had read are taken from them, and none is given
+pub record MovesRead (old new : OrderedParts) (from left : ReaderParts) : Type 0 where
+  pub terms : new.terms ≡ old.terms
+  pub given : new.given ≡ old.given
+  pub joined : AreJoined new left
+  pub as_many : new.left + left.left ≡ old.left + from.left

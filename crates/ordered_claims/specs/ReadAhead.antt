@@ -1,10 +1,11 @@
--- A provider's file whose next claim is read already.
-use Rattle.std.specs.Prelude.{◌≡◌, ◌<◌, ◌≤◌, ◌+◌, ◌^◌, ℕ, List, drop, length, slice_get, Option, Some, None}
+-- The reader of a provider's file, which reads claims ahead of those that are taken from it.
+use Rattle.std.specs.Prelude.{◌≡◌, ◌<◌, ◌≤◌, ◌+◌, ◌^◌, ℕ, true, false, List, drop, length, slice_get, Option, Some, None}
 use Rattle.settlement.specs.declared.claim.Claim.{Claim}
 use Rattle.intake_csv.specs.Rows.{AreRowsLeft, RowsLeft, claims_among}
 use Rattle.intake_csv.specs.declared.rows.Row.{Row}
 use Rattle.journal.specs.Terms.{Terms, claims_of}
-use Rattle.ordered_claims.specs.declared.open_file.OpenFile.{OpenFile}
+use Rattle.claim_gate.specs.Terms.{ForTerms, TermsParts}
+use Rattle.ordered_claims.specs.declared.file_reader.FileReader.{FileReader}
 
 -- the claims among the remaining rows of a reader
 pub record AreClaimsLeft (left : RowsLeft) (claims : List Claim) : Type 0 where
@@ -32,27 +33,46 @@ pub record SkipsTo (old new : RowsLeft) : Type 0 where
   pub within : new.place < new.number
   pub fewer : length new.records ≤ length old.records
 
--- the reader is past the claims that are given and the one that is read ahead
-pub record IsPlaced (file : OpenFile) : Type 0 where
-  pub place : file.rows.place ≡ file.given + held file.next
-  pub within : file.rows.place < file.rows.number
-  pub fits : file.rows.place < 2 ^ 64
+-- the piece has the claims of the list from a place on
+pub record IsPiece (all : List Claim) (place : ℕ) (piece : List Claim) : Type 0 where
+  pub each : (k : ℕ) (claim : Claim) → slice_get piece k ≡ Some claim → slice_get all (place + k) ≡ Some claim
+  pub most : place + length piece ≤ length all
 
--- the file of a provider, of which the first claims are given, the next one is read ahead, and the
--- others are left
-pub record IsFileAt (T : Terms) (provider : ℕ) (file : OpenFile) : Type 0 where
-  pub next : file.next ≡ slice_get (claims_of T provider) file.given
-  pub others : AreClaimsLeft file.rows (drop (file.given + 1) (claims_of T provider))
-  pub most : file.given ≤ length (claims_of T provider)
+-- the number of claims that are read
+abbrev pub reached : FileReader → ℕ
+reached reader = reader.taken + length reader.ahead.items
 
--- the number of records that are not read yet or whose claim is not given yet
-abbrev pub records_in : OpenFile → ℕ
-records_in file = length file.rows.records + held file.next
+-- the number of records that are not read yet or whose claim is not taken yet
+abbrev pub records_in : FileReader → ℕ
+records_in reader = length reader.rows.records + length reader.ahead.items
 
--- the file gives its next claim and reads the one after it
-pub record GivesClaim (old new : OpenFile) (claim : Claim) : Type 0 where
-  pub own : old.next ≡ Some claim
-  pub given : new.given ≡ old.given + 1
-  pub placed : IsPlaced new
-  pub at : (T : Terms) (provider : ℕ) → IsFileAt T provider old → IsFileAt T provider new
-  pub fewer : records_in new < records_in old
+-- the reader is past the claims that are read
+pub record IsPlaced (reader : FileReader) : Type 0 where
+  pub place : reader.rows.place ≡ reached reader
+  pub within : reader.rows.place < reader.rows.number
+  pub fits : reader.rows.place < 2 ^ 64
+
+-- the reader of a provider's file, of which the first claims are taken, the next ones are read ahead,
+-- and the others are left
+pub record IsReaderAt (T : Terms) (provider : ℕ) (reader : FileReader) : Type 0 where
+  pub ahead : IsPiece (claims_of T provider) reader.taken reader.ahead.items
+  pub others : AreClaimsLeft reader.rows (drop (reached reader) (claims_of T provider))
+  pub over : reader.is_over ≡ true → length (claims_of T provider) ≤ reached reader
+
+-- the reader is at its place in the file of a provider
+pub record IsSound (terms : TermsParts) (provider : ℕ) (reader : FileReader) : Type 0 where
+  pub placed : IsPlaced reader
+  pub at : ForTerms terms (λ T. IsReaderAt T provider reader)
+
+-- the reader has read claims of its file, or none, and has not failed
+pub record Reads (old new : FileReader) : Type 0 where
+  pub worked : old.has_failed ≡ false
+  pub works : new.has_failed ≡ false
+  pub placed : IsPlaced old → IsPlaced new
+  pub at : (T : Terms) (provider : ℕ) → IsReaderAt T provider old → IsReaderAt T provider new
+  pub fewer : records_in new ≤ records_in old
+
+-- the reader has read claims of its file, or has failed; no claim is taken
+pub record ReadsAhead (old new : FileReader) : Type 0 where
+  pub taken : new.taken ≡ old.taken
+  pub reads : new.has_failed ≡ false → Reads old new

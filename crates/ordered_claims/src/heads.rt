@@ -2,7 +2,7 @@
 ghost use Rattle.std.specs.Prelude.{◌≡◌, ◌<◌, ◌+◌, length};
 ghost use Rattle.ordered_claims.specs.FirstHead.{IsFirstOf, is_sooner as sooner};
 
-use crate::open_file::OpenFile;
+use crate::file_queue::FileQueue;
 use feel_tests::Day;
 use journal::Order;
 
@@ -16,7 +16,7 @@ pub(crate) struct Head {
 }
 
 /// Returns the first of the files' next claims in an order, or `None` if no file has a claim left.
-pub(crate) fn first_head(order: Order, files: &[OpenFile<'_>]) -> Option<Head>
+pub(crate) fn first_head(order: Order, files: &[FileQueue]) -> Option<Head>
     ensures { IsFirstOf order files.now (length files.now) result }
 {
     let mut first = None;
@@ -27,23 +27,15 @@ pub(crate) fn first_head(order: Order, files: &[OpenFile<'_>]) -> Option<Head>
 }
 
 // Returns the first of the next claims of the files up to this index, given the first of those before it.
-fn first_with(
-    order: Order,
-    files: &[OpenFile<'_>],
-    first: Option<Head>,
-    index: usize,
-) -> Option<Head>
+fn first_with(order: Order, files: &[FileQueue], first: Option<Head>, index: usize) -> Option<Head>
     requires within { index < length files.now }
     requires first { IsFirstOf order files.now index first }
     ensures { IsFirstOf order files.now (index + 1) result }
 {
-    let Some(claim) = &files[index].next else {
+    let Some(day) = files[index].first_day() else {
         return first;
     };
-    let head = Head {
-        index,
-        day: claim.as_claim().service,
-    };
+    let head = Head { index, day };
     let Some(earlier) = first else {
         return Some(head);
     };

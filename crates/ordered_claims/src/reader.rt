@@ -1,9 +1,10 @@
 //! The reader of the claims of all files.
 ghost use Rattle.std.specs.Prelude.{◌≡◌, ◌≤◌, length, IfOk, OnErr};
-ghost use Rattle.ordered_claims.specs.OrderedParts.{BeginsUnder, GivesNext, given_of};
+ghost use Rattle.ordered_claims.specs.OrderedParts.{AreJoined, BeginsUnder, GivesNext, given_of};
 
-use crate::heads::first_head;
-use crate::open_file::OpenFile;
+use crate::next_claim::NextClaim;
+use crate::queues::ClaimQueues;
+use crate::readers::ClaimReaders;
 use claim_gate::{Offer, Terms};
 use std::alloc::{AllocError, Global};
 use std::marker::Model;
@@ -11,37 +12,33 @@ use std::marker::Model;
 /// A reader of the claims of all files, which gives them in the order of the terms. It borrows the
 /// terms, and has one claim of each file in memory.
 pub struct OrderedClaims<'t> {
-    alloc: Global,
-    terms: &'t Terms<'t>,
-    files: Vec<OpenFile<'t>>,
-    /// Memory ran out while a claim was read, so that a claim may be missing.
-    failed: bool,
+    queues: ClaimQueues<'t>,
+    readers: ClaimReaders<'t>,
 }
 
 impl Drop for OrderedClaims<'_> {
     fn drop(self) {
         let OrderedClaims {
-            alloc: _,
-            terms: _,
-            files: _,
-            failed: _,
+            queues: _,
+            readers: _,
         } = self;
     }
 }
 
 impl<'t> Model for OrderedClaims<'t> {
-    ghost use Rattle.ordered_claims.specs.Kept.{IsKept, given_in, records_left};
-    ghost use Rattle.ordered_claims.specs.OrderedParts.{OrderedParts};
+    ghost use Rattle.std.specs.Prelude.{◌+◌};
+    ghost use Rattle.ordered_claims.specs.OrderedParts.{AreJoined, OrderedParts};
 
     ghost Value = { OrderedParts };
 
-    ghost view = { λ r. record {
-      terms = r.terms.now;
-      given = given_in r.files.items;
-      left = records_left r.files.items;
+    ghost view = { λ c. record {
+      terms = c.queues.terms;
+      given = c.queues.given;
+      read = c.queues.read;
+      left = c.queues.left + c.readers.left;
     } };
 
-    ghost invariant = { λ r. IsKept r.terms.now r.files.items r.failed };
+    ghost invariant = { λ c. AreJoined c.queues c.readers };
 }
 
 impl<'t> OrderedClaims<'t> {
@@ -49,16 +46,10 @@ impl<'t> OrderedClaims<'t> {
     pub fn new(alloc: Global, terms: &'t Terms) -> Result<OrderedClaims<'t>, AllocError>
         ensures start { IfOk result (BeginsUnder terms.now) }
     {
-        let mut files = Vec::new(alloc);
-        for place in 0..terms.files().len() {
-            files.push(OpenFile::open(alloc, terms, place + 1)?)?;
-        }
-        Ok(OrderedClaims {
-            alloc,
-            terms,
-            files,
-            failed: false,
-        })
+        let mut readers = ClaimReaders::open(alloc, terms)?;
+        let mut queues = ClaimQueues::new(alloc, terms)?;
+        queues.take_from(&mut readers)?;
+        Ok(OrderedClaims { queues, readers })
     }
 
     /// Returns an offer of the next claim in the order, or `None` once all claims are given. If
@@ -67,22 +58,14 @@ impl<'t> OrderedClaims<'t> {
         ensures gives { IfOk result (GivesNext self.old self.new) }
         ensures refused { OnErr result (self.new.terms ≡ self.old.terms) }
     {
-        if self.failed {
-            return Err(AllocError);
-        }
-        let Some(head) = first_head(self.terms.order(), &self.files) else {
-            return Ok(None);
+        let offer = match self.queues.next() {
+            NextClaim::Given(offer) => offer,
+            NextClaim::NoneLeft => return Ok(None),
+            NextClaim::Unread => return Err(AllocError),
         };
-        let index = head.index;
-        let place = self.files[index].given;
-        self.failed = true;
-        let claim = self.files[index].give(self.alloc)?;
-        self.failed = false;
-        Ok(Some(Offer {
-            provider: index + 1,
-            place,
-            claim,
-        }))
+        self.readers.read_next_of(offer.provider - 1)?;
+        self.queues.take_from(&mut self.readers)?;
+        Ok(Some(offer))
     }
 
     /// Returns the number of a provider's claims that are given. Providers count from 1.
@@ -91,6 +74,17 @@ impl<'t> OrderedClaims<'t> {
         requires most { provider ≤ length self.now.terms.files }
         ensures { result ≡ given_of self.now provider }
     {
-        self.files[provider - 1].given
+        self.queues.given_count(provider)
+    }
+
+    /// Returns the claims that are read and the readers of the others. So a thread can give the claims
+    /// that are read while others read more.
+    pub fn split(self) -> (ClaimQueues<'t>, ClaimReaders<'t>)
+        ensures terms { result.0.terms ≡ self.entry.terms }
+        ensures given { result.0.given ≡ self.entry.given }
+        ensures joined { AreJoined result.0 result.1 }
+    {
+        let OrderedClaims { queues, readers } = self;
+        (queues, readers)
     }
 }

@@ -1,6 +1,6 @@
 use Rattle.std.proofs.Common.{◌≡◌, ◌<◌, ◌^◌, ap, arith, length, rules}
 use Rattle.ordered_claims.proofs.Reading.{after_refused, read_none, read_some, skips_none}
-use Rattle.ordered_claims.proofs.open_file.read_claim.Goals as goal
+use Rattle.ordered_claims.proofs.file_reader.read_claim.Goals as goal
 
 pub records-init : goal.records-init
 records-init c = skips_none c.args.rows.now c.requires.within

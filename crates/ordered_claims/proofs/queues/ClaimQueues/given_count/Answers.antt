@@ -1,13 +1,7 @@
 use Rattle.std.proofs.Common.{◌-◌, arith}
 use Rattle.std.proofs.lemmas.Option.{slice_get_read}
 use Rattle.ordered_claims.proofs.Keeping.{number_read}
-use Rattle.ordered_claims.proofs.reader.OrderedClaims.given_count.Goals as goal
-
-pub index-requires : goal.index-requires
-index-requires c =
-    let most = rw (← c.self.view_is) at c.requires.most in
-    let files = c.self.inside.files in
-    omega (arith, c.requires.least, most, c.self.invariant.as_many, files.ok.0)
+use Rattle.ordered_claims.proofs.queues.ClaimQueues.given_count.Goals as goal
 
 pub returns : goal.returns
 returns c =

@@ -1,6 +1,6 @@
 use Rattle.std.proofs.Common.{length}
 use Rattle.ordered_claims.specs.ReadAhead.{SkipsTo}
-use Rattle.ordered_claims.proofs.open_file.read_claim.Given as goal
+use Rattle.ordered_claims.proofs.file_reader.read_claim.Given as goal
 
 -- the records so far are refused ones
 abbrev pub invariant-records : goal.invariant-records
