@@ -10,8 +10,10 @@ use Rattle.journal.specs.Events.{closed, has_end, is_close, is_end, places}
 use Rattle.journal.specs.Gate.{LeadsTo}
 use Rattle.journal.specs.InOrder.{IsDue}
 use Rattle.journal.specs.declared.order.Order.TheVariants.{Any}
-use Rattle.ordered_claims.specs.OrderedParts.{BeginsUnder, GivesNext, IsNextOffer, OrderedParts, given_of}
-use Rattle.crew.specs.Accepting.{ArePast, HasOffered, HasOfferedAll, IsAtClaim}
+use Rattle.ordered_claims.specs.OrderedParts.{AreJoined, BeginsUnder, GivesNext, IsNextOffer, OrderedParts, ReaderParts, count_of, given_of}
+use Rattle.crew.specs.Accepting.{ArePast, HasOffered, HasOfferedAll, IsAcceptorStep, IsAtClaim, IsBetween}
+use Rattle.crew.specs.declared.acceptor.AcceptorStep.{AcceptorStep}
+use Rattle.crew.specs.declared.acceptor.AcceptorStep.TheVariants.{NextClaim, ReadOn, EndProviders, Leave}
 use Rattle.crew.specs.Sharing.{HasAccepted, is_past, is_shut}
 use Rattle.crew.proofs.HeldClaims.{any_goes_on}
 use Rattle.crew.proofs.Sections.{no_fewer}
@@ -27,6 +29,34 @@ first_claim terms seen claims of_terms begins = record {
   of_terms = begins.terms_are;
   accepted = λ provider. omega (arith, begins.none provider);
 }
+
+-- the acceptor is between two claims where claims are given as before
+pub same_given : (terms : TermsParts) (seen : GateParts) (old new : OrderedParts) → new.terms ≡ old.terms → new.given ≡ old.given → IsAtClaim terms seen old → IsAtClaim terms seen new
+same_given terms seen old new same given h = record {
+  seen_terms = h.seen_terms;
+  of_terms = same ∙ h.of_terms;
+  accepted = λ provider. subst (λ ns. count_of ns provider ≤ length (places seen.journal provider)) (sym given) (h.accepted provider);
+}
+
+-- the acceptor that was given no claim is where it was
+pub stays_between : (terms : TermsParts) (seen : GateParts) (old new : OrderedParts) → new ≡ old → IsAtClaim terms seen old → IsBetween terms seen old new
+stays_between terms seen old new same h = record { at = subst (λ claims. IsAtClaim terms seen claims) (sym same) h; read = ap (λ (claims : OrderedParts). claims.read) same }
+
+-- the readers go on after the claims of the acceptor
+pub joined_after : (terms : TermsParts) (seen : GateParts) (old rest : OrderedParts) (from read : ReaderParts) → AreJoined old from → read.terms ≡ from.terms → read.taken ≡ from.taken
+    → old.terms ≡ terms → IsBetween terms seen old rest → AreJoined rest read
+joined_after terms seen old rest from read joined same taken of_terms is = record {
+  terms = same ∙ joined.terms ∙ of_terms ∙ sym is.at.of_terms;
+  taken = taken ∙ joined.taken ∙ sym is.read;
+}
+
+-- a step after claims were offered is a step from before them
+pub step_after : (terms : TermsParts) (seen : GateParts) (old between new : OrderedParts) (step : AcceptorStep) → between.read ≡ old.read → between.left ≤ old.left
+    → IsAcceptorStep terms seen between new step → IsAcceptorStep terms seen old new step
+step_after terms seen old between new NextClaim read fewer is = record { between = record { at = is.between.at; read = is.between.read ∙ read }; fewer = omega (arith, is.fewer, fewer) }
+step_after terms seen old between new ReadOn read fewer is = record { at = is.at; read = is.read ∙ read }
+step_after terms seen old between new EndProviders read fewer is = is
+step_after terms seen old between new Leave read fewer is = is
 
 -- after the last claim the acceptor has offered all claims
 pub all_offered : (terms : TermsParts) (seen : GateParts) (old new : OrderedParts) → GivesNext old new None → IsAtClaim terms seen old → HasOfferedAll terms seen new
@@ -56,24 +86,28 @@ module _ (terms : TermsParts) (seen : GateParts) (old new : OrderedParts) (offer
   offer_taken = subst (λ n. n ≤ length (places seen.journal offer.provider)) (sym gives.place) (h.accepted offer.provider)
 
   -- once the claim is accepted, by this offer or another caller's, the acceptor is at the next one
-  pub one_offered : (after : GateParts) (next : ℕ) → LeadsTo seen after → (offer.place < next) × HasAccepted after offer.provider next → HasOffered terms after old new
-  one_offered after next leads reached = record {
-    at = record {
-      seen_terms = leads.terms ∙ h.seen_terms;
-      of_terms = gives.terms ∙ h.of_terms;
-      accepted = λ provider.
-          let given = gives.given provider in
-          elim (cases_Bool (offer.provider == provider)) [
-            | inl same ↦
-                let own = eqb-true offer.provider provider same in
-                let more : given_of new provider ≡ given_of old provider + 1 = given ∙ ap (λ b. given_of old provider + cond b 1 0) same in
-                let place : given_of old provider ≡ offer.place = subst (λ p. given_of old p ≡ offer.place) own (sym gives.place) in
-                let within : next ≤ length (places after.journal provider) = subst (λ p. next ≤ length (places after.journal p)) own reached.1 in
-                omega (arith, more, place, reached.0, within)
-            | inr other ↦
-                let same : given_of new provider ≡ given_of old provider + 0 = given ∙ ap (λ b. given_of old provider + cond b 1 0) other in
-                omega (arith, same, h.accepted provider, no_fewer seen.journal after.journal provider leads.journal)
-          ];
+  pub one_offered : new.read ≡ old.read → (after : GateParts) (next : ℕ) → LeadsTo seen after → (offer.place < next) × HasAccepted after offer.provider next
+      → HasOffered terms after old new
+  one_offered read after next leads reached = record {
+    between = record {
+      at = record {
+        seen_terms = leads.terms ∙ h.seen_terms;
+        of_terms = gives.terms ∙ h.of_terms;
+        accepted = λ provider.
+            let given = gives.given provider in
+            elim (cases_Bool (offer.provider == provider)) [
+              | inl same ↦
+                  let own = eqb-true offer.provider provider same in
+                  let more : given_of new provider ≡ given_of old provider + 1 = given ∙ ap (λ b. given_of old provider + cond b 1 0) same in
+                  let place : given_of old provider ≡ offer.place = subst (λ p. given_of old p ≡ offer.place) own (sym gives.place) in
+                  let within : next ≤ length (places after.journal provider) = subst (λ p. next ≤ length (places after.journal p)) own reached.1 in
+                  omega (arith, more, place, reached.0, within)
+              | inr other ↦
+                  let same : given_of new provider ≡ given_of old provider + 0 = given ∙ ap (λ b. given_of old provider + cond b 1 0) other in
+                  omega (arith, same, h.accepted provider, no_fewer seen.journal after.journal provider leads.journal)
+            ];
+      };
+      read = read;
     };
     fewer = gives.fewer;
   }

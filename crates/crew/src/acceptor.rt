@@ -1,6 +1,8 @@
-//! The work of the acceptor, the thread that offers the claims of all files where the terms ask for an order.
-ghost use Rattle.std.specs.Prelude.{◌≡◌, length, IfOk, IfErr};
-ghost use Rattle.crew.specs.Accepting.{ArePast, HasOfferedAll, IsAcceptorStep, IsAtClaim};
+//! The work of the acceptor, the thread that offers the claims of all files where the terms ask for an order. Other threads
+//! read claims ahead of it.
+ghost use Rattle.std.specs.Prelude.{◌≡◌, ◌<◌, length, IfOk, IfErr};
+ghost use Rattle.std.specs.Thread.{IsSync};
+ghost use Rattle.crew.specs.Accepting.{AreOffered, ArePast, HasOfferedAll, IsAcceptorStep, IsAtClaim};
 ghost use Rattle.crew.specs.Passes.{GoesOn, LeavesWith};
 
 use crate::offering::{end, offer};
@@ -8,23 +10,36 @@ use crate::shared::{Exit, Onward, Shared};
 use claim_gate::Gate;
 use faults::RunFault;
 use gate_batching::{BatchTurn, OFFERS_LIMIT};
-use ordered_claims::OrderedClaims;
+use ordered_claims::{ClaimQueues, ClaimReaders, NextClaim, OrderedClaims};
 use std::alloc::AllocError;
 use std::sync::Wait;
+use std::thread::{Threads, available_parallelism, join};
 
 /// The next step of the acceptor.
 enum AcceptorStep {
     /// It offers the next claim.
     NextClaim,
+    /// It waits until more claims are read.
+    ReadOn,
     /// It ends the providers, since no claim is left.
     EndProviders,
     /// It leaves, since no more claims are accepted.
     Leave,
 }
 
+/// What the acceptor has offered, with the claims that are read and not given yet.
+enum Offered<'t> {
+    /// It goes on once more claims are read.
+    Part(ClaimQueues<'t>),
+    /// All claims of all files are accepted.
+    Whole(ClaimQueues<'t>),
+    /// No more claims are accepted.
+    Shut,
+}
+
 /// Offers the claims of all files in the order of the terms, and ends all providers after the last one. In an order a claim
-/// is offered only after all claims before it are accepted, so one thread offers them all.
-pub(crate) fn run_acceptor<R: Wait, G: Gate>(
+/// is offered only after all claims before it are accepted, so one thread offers them all, and others read ahead of it.
+pub(crate) fn run_acceptor<R: Threads + Wait + Sync, G: Gate>(
     shared: &Shared<R, G>,
     mut pass: G::Pass,
 ) -> Result<G::Pass, Exit<G::Pass>>
@@ -36,13 +51,107 @@ pub(crate) fn run_acceptor<R: Wait, G: Gate>(
     ensures leaves { IfErr result
         (LeavesWith (G.has_pass shared.now.gate.now) G.is_worn G.known pass) }
 {
-    let mut claims = match OrderedClaims::new(shared.alloc, shared.terms) {
+    let claims = match OrderedClaims::new(shared.alloc, shared.terms) {
         Ok(claims) => claims,
         Err(AllocError) => return Err(Exit {
             fault: RunFault::OutOfMemory,
             pass,
         }),
     };
+    let threads = reader_count(shared.rt);
+    let (mut queues, mut readers) = claims.split();
+    for _ in shared.rt.forever() {
+        let Ok(()) = queues.take_from(&mut readers) else {
+            return Err(Exit {
+                fault: RunFault::OutOfMemory,
+                pass,
+            });
+        };
+        let (read, onward) = offer_while_reading(shared, pass, queues, readers, threads);
+        let onward = match onward {
+            Ok(onward) => onward,
+            Err(exit) => return Err(exit),
+        };
+        let Onward { value, pass: back } = onward;
+        match value {
+            Offered::Part(rest) => (queues, readers, pass) = (rest, read, back),
+            Offered::Whole(rest) => return end_all(shared, back, &rest),
+            Offered::Shut => return Ok(back),
+        }
+    }
+    unreachable!()
+}
+
+// Returns the number of threads that read at once: that of the processors.
+fn reader_count<R: Threads>(rt: &R) -> usize
+    ensures { 0 < result }
+{
+    match available_parallelism(rt) {
+        Ok(count) => count.get(),
+        Err(_) => 1,
+    }
+}
+
+// Offers the claims that are read, while other threads read more. Where no thread can be started, this one reads afterwards.
+fn offer_while_reading<'t, R: Threads + Wait + Sync, G: Gate>(
+    shared: &Shared<R, G>,
+    pass: G::Pass,
+    queues: ClaimQueues<'t>,
+    readers: ClaimReaders<'t>,
+    threads: usize,
+) -> (
+    ClaimReaders<'t>,
+    Result<Onward<Offered<'t>, G::Pass>, Exit<G::Pass>>,
+)
+    requires own { G.has_pass shared.now.gate.now pass }
+    requires at { IsAtClaim shared.now.terms.now (G.known pass).seen queues }
+    requires threads { 0 < threads }
+    ensures terms { result.0.terms ≡ readers.entry.terms }
+    ensures taken { result.0.taken ≡ readers.entry.taken }
+    ensures goes_on { IfOk result.1
+        (λ r. GoesOn (G.has_pass shared.now.gate.now) G.known pass r.pass) }
+    ensures offered { IfOk result.1
+        (λ r. AreOffered shared.now.terms.now (G.known r.pass).seen queues.entry r.value) }
+    ensures leaves { IfErr result.1
+        (LeavesWith (G.has_pass shared.now.gate.now) G.is_worn G.known pass) }
+{
+    let rt = shared.rt;
+    join(
+        rt,
+        move || -> ClaimReaders
+            requires { IsSync R.row × (0 < threads) }
+            ensures terms { result.terms ≡ readers.entry.terms }
+            ensures taken { result.taken ≡ readers.entry.taken }
+        { readers.read_ahead(rt, threads) },
+        move || -> Result<Onward<Offered, G::Pass>, Exit<G::Pass>>
+            requires { G.has_pass shared.now.gate.now pass
+                × IsAtClaim shared.now.terms.now (G.known pass).seen queues }
+            ensures goes_on { IfOk result
+                (λ r. GoesOn (G.has_pass shared.entry.now.gate.now) G.known pass r.pass) }
+            ensures offered { IfOk result
+                (λ r. AreOffered shared.entry.now.terms.now (G.known r.pass).seen
+                queues.entry r.value) }
+            ensures leaves { IfErr result
+                (LeavesWith (G.has_pass shared.entry.now.gate.now) G.is_worn G.known pass) }
+        { offer_turns(shared, pass, queues) },
+    )
+}
+
+// Offers the claims that are read, turn after turn.
+fn offer_turns<'t, R: Wait, G: Gate>(
+    shared: &Shared<R, G>,
+    mut pass: G::Pass,
+    mut claims: ClaimQueues<'t>,
+) -> Result<Onward<Offered<'t>, G::Pass>, Exit<G::Pass>>
+    requires own { G.has_pass shared.now.gate.now pass }
+    requires at { IsAtClaim shared.now.terms.now (G.known pass).seen claims }
+    ensures goes_on { IfOk result
+        (λ r. GoesOn (G.has_pass shared.now.gate.now) G.known pass r.pass) }
+    ensures offered { IfOk result
+        (λ r. AreOffered shared.now.terms.now (G.known r.pass).seen claims.entry r.value) }
+    ensures leaves { IfErr result
+        (LeavesWith (G.has_pass shared.now.gate.now) G.is_worn G.known pass) }
+{
     'turns: loop {
         let onward = match offer_turn(shared, pass, &mut claims) {
             Ok(onward) => onward,
@@ -51,17 +160,27 @@ pub(crate) fn run_acceptor<R: Wait, G: Gate>(
         let Onward { value, pass: back } = onward;
         match value {
             AcceptorStep::NextClaim => pass = back,
-            AcceptorStep::EndProviders => return end_all(shared, back, &claims),
-            AcceptorStep::Leave => return Ok(back),
+            AcceptorStep::ReadOn => return Ok(Onward {
+                value: Offered::Part(claims),
+                pass: back,
+            }),
+            AcceptorStep::EndProviders => return Ok(Onward {
+                value: Offered::Whole(claims),
+                pass: back,
+            }),
+            AcceptorStep::Leave => return Ok(Onward {
+                value: Offered::Shut,
+                pass: back,
+            }),
         }
     }
 }
 
-// Offers up to `OFFERS_LIMIT` claims in one turn, and reads the claim after each of them.
+// Offers up to `OFFERS_LIMIT` claims in one turn.
 fn offer_turn<R: Wait, G: Gate>(
     shared: &Shared<R, G>,
     mut pass: G::Pass,
-    claims: &mut OrderedClaims<'_>,
+    claims: &mut ClaimQueues<'_>,
 ) -> Result<Onward<AcceptorStep, G::Pass>, Exit<G::Pass>>
     requires own { G.has_pass shared.now.gate.now pass }
     requires at { IsAtClaim shared.now.terms.now (G.known pass).seen claims.old }
@@ -81,18 +200,10 @@ fn offer_turn<R: Wait, G: Gate>(
         let Onward { value, pass: back } = onward;
         match value {
             AcceptorStep::NextClaim => pass = back,
-            AcceptorStep::EndProviders => {
-                return Ok(Onward {
-                    value: AcceptorStep::EndProviders,
-                    pass: back,
-                });
-            }
-            AcceptorStep::Leave => {
-                return Ok(Onward {
-                    value: AcceptorStep::Leave,
-                    pass: back,
-                });
-            }
+            step => return Ok(Onward {
+                value: step,
+                pass: back,
+            }),
         }
     }
     Ok(Onward {
@@ -101,12 +212,12 @@ fn offer_turn<R: Wait, G: Gate>(
     })
 }
 
-// Offers the next claim in the order. Where it is out of turn, another caller of the gate has offered it already, so that the
-// claim after it is the next one.
+// Offers the next claim in the order, if it is read. Where it is out of turn, another caller of the gate has offered it already,
+// so that the claim after it is the next one.
 fn offer_next<R: Wait, G: Gate>(
     shared: &Shared<R, G>,
     pass: G::Pass,
-    claims: &mut OrderedClaims<'_>,
+    claims: &mut ClaimQueues<'_>,
     turn: &BatchTurn,
 ) -> Result<Onward<AcceptorStep, G::Pass>, Exit<G::Pass>>
     requires own { G.has_pass shared.now.gate.now pass }
@@ -118,18 +229,16 @@ fn offer_next<R: Wait, G: Gate>(
     ensures leaves { IfErr result
         (LeavesWith (G.has_pass shared.now.gate.now) G.is_worn G.known pass) }
 {
-    let given = match claims.next() {
-        Ok(given) => given,
-        Err(AllocError) => return Err(Exit {
-            fault: RunFault::OutOfMemory,
+    let offered = match claims.next() {
+        NextClaim::Given(offered) => offered,
+        NextClaim::Unread => return Ok(Onward {
+            value: AcceptorStep::ReadOn,
             pass,
         }),
-    };
-    let Some(offered) = given else {
-        return Ok(Onward {
+        NextClaim::NoneLeft => return Ok(Onward {
             value: AcceptorStep::EndProviders,
             pass,
-        });
+        }),
     };
     let onward = match offer(shared, pass, offered, turn) {
         Ok(onward) => onward,
@@ -152,7 +261,7 @@ fn offer_next<R: Wait, G: Gate>(
 fn end_all<R: Wait, G: Gate>(
     shared: &Shared<R, G>,
     mut pass: G::Pass,
-    claims: &OrderedClaims<'_>,
+    claims: &ClaimQueues<'_>,
 ) -> Result<G::Pass, Exit<G::Pass>>
     requires own { G.has_pass shared.now.gate.now pass }
     requires all { HasOfferedAll shared.now.terms.now (G.known pass).seen claims.now }

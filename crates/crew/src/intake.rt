@@ -18,6 +18,7 @@ use intake_csv::{
 };
 use std::alloc::{AllocError, Global};
 use std::sync::Wait;
+use std::thread::Threads;
 
 /// An intake between two records of its provider's file.
 #[derive(Drop)]
@@ -52,7 +53,7 @@ enum Record {
 
 /// Does the work of the intake with this number, from 0, which offers the claims of its provider's file. Where the terms ask
 /// for an order, intake 0 is the acceptor, which offers the claims of all files, and the others do nothing.
-pub(crate) fn run_intake_part<R: Wait, G: Gate>(
+pub(crate) fn run_intake_part<R: Threads + Wait + Sync, G: Gate>(
     shared: &Shared<R, G>,
     pass: G::Pass,
     number: usize,

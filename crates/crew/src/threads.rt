@@ -1,5 +1,6 @@
 //! A run by an intake thread for each provider's file and the given number of workers.
 ghost use Rattle.std.specs.Prelude.{◌≡◌, ◌≢◌, ◌⊎◌, ◌↔◌, ◌<◌, ◌≤◌, ◌+◌, true, IsTrue, length, IfOk, IfErr, OnOk};
+ghost use Rattle.std.specs.Thread.{IsSync};
 ghost use Rattle.journal.specs.Lawful.{Finished};
 ghost use Rattle.journal.specs.Events.{accepts};
 ghost use Rattle.journal.specs.InOrder.{AreFirstInOrder};
@@ -196,7 +197,8 @@ fn in_threads<R: Threads + Wait + Sync, G: Gate + Sync>(
             requires { G.has_pass shared.now.gate.now pass
                 × ((G.known pass).seen.terms ≡ shared.now.terms.now)
                 × (shared.now.plan.now ≡ shared.now.terms.now.plan)
-                × (length shared.now.terms.now.files ≤ threads) }
+                × (length shared.now.terms.now.files ≤ threads)
+                × IsSync R.row }
             ensures goes_on { IfOk result
                 (GoesOn (G.has_pass shared.entry.now.gate.now) G.known pass) }
             ensures finished { IfOk result (λ p. ForTerms shared.entry.now.terms.now
@@ -211,7 +213,8 @@ fn in_threads<R: Threads + Wait + Sync, G: Gate + Sync>(
                 let job = move ||
                     requires { G.has_pass shared.now.gate.now theirs
                         × ((G.known theirs).seen.terms ≡ shared.now.terms.now)
-                        × (shared.now.plan.now ≡ shared.now.terms.now.plan) }
+                        × (shared.now.plan.now ≡ shared.now.terms.now.plan)
+                        × IsSync R.row }
                 {
                     if let Err(Exit { fault, .. }) = run_thread(shared, theirs, number) {
                         shared.least.note(fault);
@@ -230,7 +233,7 @@ fn in_threads<R: Threads + Wait + Sync, G: Gate + Sync>(
 }
 
 // Does the work of the thread with this number. A thread that runs out of memory stops the gate.
-fn run_thread<R: Wait, G: Gate>(
+fn run_thread<R: Threads + Wait + Sync, G: Gate>(
     shared: &Shared<R, G>,
     pass: G::Pass,
     number: usize,
@@ -260,7 +263,7 @@ fn run_thread<R: Wait, G: Gate>(
 }
 
 // Does the work of the intake or the worker with this number: the first numbers are those of the intakes.
-fn do_part<R: Wait, G: Gate>(
+fn do_part<R: Threads + Wait + Sync, G: Gate>(
     shared: &Shared<R, G>,
     pass: G::Pass,
     number: usize,

@@ -1,4 +1,5 @@
-use Rattle.std.proofs.Common.{refl, arith}
+use Rattle.std.proofs.Common.{refl, ◌∙◌, arith}
+use Rattle.crew.proofs.Offers.{step_after}
 use Rattle.crew.proofs.Passes.{further, leaves_later, unchanged}
 use Rattle.crew.proofs.acceptor.offer_turn.Goals as goal
 
@@ -7,6 +8,7 @@ offers-init g c = (
   unchanged (g.G.Gate.has_pass c.args.shared.now.gate.now) g.G.Gate.known c.args.pass c.args.pass c.requires.own refl,
   c.requires.at,
   omega arith,
+  refl,
 )
 
 pub offer_next-requires-clause-own : goal.offer_next-requires-clause-own
@@ -24,26 +26,22 @@ offers-preserved g c =
     let on = c.in-Ok.ensures in
     let offered = rw c.in-NextClaim.is at on.step in (
       further (g.G.Gate.has_pass c.args.shared.now.gate.now) g.G.Gate.known c.args.pass c.offers.pass c.in-Ok.onward.pass c.offers.invariant.0 on.goes_on,
-      offered.at,
+      offered.between.at,
       omega (arith, offered.fewer, c.offers.invariant.2),
+      offered.between.read ∙ c.offers.invariant.3,
     )
 
-pub returns-in-EndProviders-clause-goes_on : goal.returns-in-EndProviders-clause-goes_on
-returns-in-EndProviders-clause-goes_on g c =
+pub returns-in_default-clause-goes_on : goal.returns-in_default-clause-goes_on
+returns-in_default-clause-goes_on g c =
     further (g.G.Gate.has_pass c.args.shared.now.gate.now) g.G.Gate.known c.args.pass c.offers.pass c.in-Ok.onward.pass c.offers.invariant.0 c.in-Ok.ensures.goes_on
 
-pub returns-in-EndProviders-clause-step : goal.returns-in-EndProviders-clause-step
-returns-in-EndProviders-clause-step g c = rw c.in-EndProviders.is at c.in-Ok.ensures.step
-
-pub returns-in-Leave-clause-goes_on : goal.returns-in-Leave-clause-goes_on
-returns-in-Leave-clause-goes_on g c =
-    further (g.G.Gate.has_pass c.args.shared.now.gate.now) g.G.Gate.known c.args.pass c.offers.pass c.in-Ok.onward.pass c.offers.invariant.0 c.in-Ok.ensures.goes_on
-
-pub returns-in-Leave-clause-step : goal.returns-in-Leave-clause-step
-returns-in-Leave-clause-step g c = rw c.in-Leave.is at c.in-Ok.ensures.step
+pub returns-in_default-clause-step : goal.returns-in_default-clause-step
+returns-in_default-clause-step g c =
+    step_after c.args.shared.now.terms.now (g.G.Gate.known c.in-Ok.onward.pass).seen c.args.claims.now c.offers.claims c.offer_next.new.claims c.in-Ok.onward.value c.offers.invariant.3
+    (omega (arith, c.offers.invariant.2)) c.in-Ok.ensures.step
 
 pub returns-clause-goes_on : goal.returns-clause-goes_on
 returns-clause-goes_on g c = c.offers.invariant.0
 
 pub returns-clause-step : goal.returns-clause-step
-returns-clause-step g c = record { at = c.offers.invariant.1; fewer = omega (arith, c.offers.invariant.2) }
+returns-clause-step g c = record { between = record { at = c.offers.invariant.1; read = c.offers.invariant.3 }; fewer = omega (arith, c.offers.invariant.2) }

@@ -1,4 +1,4 @@
-use Rattle.std.proofs.Common.{◌≤◌, ◌+◌}
+use Rattle.std.proofs.Common.{◌≡◌, ◌≤◌, ◌+◌}
 use Rattle.crew.specs.Accepting.{IsAtClaim}
 use Rattle.crew.specs.Passes.{GoesOn}
 use Rattle.crew.proofs.acceptor.offer_turn.Given as goal
@@ -6,4 +6,4 @@ use Rattle.crew.proofs.acceptor.offer_turn.Given as goal
 abbrev pub invariant-offers : goal.invariant-offers
 invariant-offers g l =
     GoesOn (g.G.Gate.has_pass l.shared.gate.now) g.G.Gate.known l.initial.pass l.pass
-    × IsAtClaim l.shared.terms.now (g.G.Gate.known l.pass).seen l.claims × (l.claims.left + l.number ≤ l.initial.claims.left)
+    × IsAtClaim l.shared.terms.now (g.G.Gate.known l.pass).seen l.claims × (l.claims.left + l.number ≤ l.initial.claims.left) × (l.claims.read ≡ l.initial.claims.read)
