@@ -2,6 +2,7 @@
 use Rattle.std.proofs.Common.{◌≡◌, ◌≢◌, ◌↔◌, ℕ, Bool, List, [], ◌∷◌, map, Option, Some, None, Result, IfErr, IfSome, OnOk, inl, inr, refl, sym, subst}
 use Rattle.std.proofs.KnownBytes.{Keeps-refl}
 use Rattle.std.proofs.lemmas.Result.{on_ok_weaker, IfErr-weaker}
+use Rattle.std.specs.Global.{Vec}
 use Rattle.std.specs.List.{AllZip}
 use Rattle.tables.specs.Plan.{PlanParts}
 use Rattle.dtable.specs.PlanFile.{IsPlanText}
@@ -21,6 +22,7 @@ use Rattle.faults.specs.declared.terms_fault.TermsFault.TheVariants as terms
 use Rattle.crew.specs.Workers.{IsWorkerCount}
 use Rattle.faults.specs.declared.run_fault.RunFault.{RunFault}
 use Rattle.faults.specs.declared.run_fault.RunFault.TheVariants as run
+use Rattle.closing.specs.Text.{IsClosingText}
 use Rattle.remit.specs.Counts.{AreRunCounts}
 use Rattle.remit.specs.declared.counts.RunCounts.{RunCounts}
 use Rattle.remit.specs.Report.{IsReport, report_records, text_of}
@@ -30,7 +32,7 @@ use Rattle.evaluation.specs.Stop.{WritesText}
 use Rattle.evaluation.specs.declared.stop.ValueStop.TheVariants as value
 use Rattle.adjudicate.specs.declared.stop.Stop.{Stop}
 use Rattle.adjudicate.specs.declared.stop.Stop.TheVariants as stop
-use Rattle.adjudicate.specs.RunText.{AreTermsOfTexts, IsCountedRemittance, IsRemittance, IsRemittanceOf, RunTexts, WritesCounted, WritesRemittanceFront}
+use Rattle.adjudicate.specs.RunText.{AreTermsOfTexts, IsClosedRemittance, IsCountedRemittance, IsRemittance, IsRemittanceOf, RunTexts, WritesClosed, WritesCounted, WritesRemittanceFront}
 use Rattle.adjudicate.specs.RunStop.{IsRunReason, IsStopOfRun, IsStopOfTerms, IsStopOfWrite, StopsRemittance, WritesRemittanceUntil}
 use Rattle.adjudicate.specs.Stop.{IsStopOfPlan, failed_after}
 
@@ -164,6 +166,12 @@ pub counts_written : (parts : TermsParts) (J : List Event) → IsFinishedOver pa
 counts_written parts J finished old new None report counted = tt
 counts_written parts J finished old new (Some counts) report counted = record { journal = J; finished = finished; report = report; counted = counted }
 
+-- the same of the closing balances
+pub closing_written : (parts : TermsParts) (J : List Event) → IsFinishedOver parts J → (old new : Option (List ℕ)) (closing : Option (Vec ℕ)) → WritesReport parts J old new
+    → IfSome closing (λ text. IsClosingText parts J text.items) → IfSome closing (λ text. WritesClosed parts old new text.items)
+closing_written parts J finished old new None report closed = tt
+closing_written parts J finished old new (Some text) report closed = record { journal = J; finished = finished; report = report; closed = closed }
+
 -- bytes that are written for the terms of the texts are written for the texts
 module _ (texts : RunTexts) (parts : TermsParts) (over : AreTermsOfTexts texts parts) (old new : Option (List ℕ)) where
   pub whole_over : {X E : Type 0} (r : Result X E) → OnOk r (WritesText (IsRemittanceOf parts) old new) → OnOk r (WritesText (IsRemittance texts) old new)
@@ -177,6 +185,14 @@ module _ (texts : RunTexts) (parts : TermsParts) (over : AreTermsOfTexts texts p
   pub counted_over : {X E : Type 0} (counts : Option RunCounts) (r : Result X E) → OnOk r (IfSome counts (WritesCounted parts old new))
       → OnOk r (IfSome counts (IsCountedRemittance texts old new))
   counted_over counts r h = on_ok_weaker r (IfSome-over counts) h
+
+  closing-over : (closing : Option (Vec ℕ)) → IfSome closing (λ text. WritesClosed parts old new text.items) → IfSome closing (λ text. IsClosedRemittance texts old new text.items)
+  closing-over None h = tt
+  closing-over (Some text) h = record { parts = parts; over = over; writes = h }
+
+  pub closed_over : {X E : Type 0} (closing : Option (Vec ℕ)) (r : Result X E) → OnOk r (IfSome closing (λ text. WritesClosed parts old new text.items))
+      → OnOk r (IfSome closing (λ text. IsClosedRemittance texts old new text.items))
+  closed_over closing r h = on_ok_weaker r (closing-over closing) h
 
   front_over : (workers : ℕ) (s : Stop) → StopsRemittance parts workers old new s → WritesRemittanceUntil texts old new s
   front_over workers (stop.Run fault) h = h.1

@@ -9,6 +9,7 @@ use Rattle.journal.specs.declared.order.Order.TheVariants.{Any}
 use Rattle.journal.specs.Lawful.{Finished}
 use Rattle.journal.specs.Terms.{Terms}
 use Rattle.claim_gate.specs.Terms.{AreTermsOf, IsFinishedOver, IsTermsOf, TermsParts, text_in, texts_of}
+use Rattle.closing.specs.Text.{IsClosingText}
 use Rattle.orders.specs.Remittance.{IsOrderedRemittanceOf}
 use Rattle.remit.specs.Counts.{AreRunCounts}
 use Rattle.remit.specs.Report.{IsReport}
@@ -97,3 +98,17 @@ pub record IsCountedRemittance (texts : RunTexts) (old new : Option (List ℕ)) 
   pub parts : TermsParts
   pub over : AreTermsOfTexts texts parts
   pub writes : WritesCounted parts old new counts
+
+-- the writer has received the remittance of a journal that is finished over these terms, and the bytes are the text of the closing balances
+-- of this journal
+pub record WritesClosed (parts : TermsParts) (old new : Option (List ℕ)) (closing : List ℕ) : Type 0 where
+  pub journal : List Event
+  pub finished : IsFinishedOver parts journal
+  pub report : WritesReport parts journal old new
+  pub closed : IsClosingText parts journal closing
+
+-- the writer has received a remittance of the texts, and the bytes are the text of the closing balances of its journal
+pub record IsClosedRemittance (texts : RunTexts) (old new : Option (List ℕ)) (closing : List ℕ) : Type 0 where
+  pub parts : TermsParts
+  pub over : AreTermsOfTexts texts parts
+  pub writes : WritesClosed parts old new closing

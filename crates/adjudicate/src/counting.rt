@@ -1,15 +1,21 @@
-//! The optional counts of a run's records.
-ghost use Rattle.std.specs.Prelude.{◌≡◌, IfSome};
+//! What a run is asked for beside its remittance: the counts of its records, and its closing
+//! balances.
+ghost use Rattle.std.specs.Prelude.{◌≡◌, IfSome, option_map};
+ghost use Rattle.closing.specs.Text.{IsClosingText};
 ghost use Rattle.remit.specs.Counts.{AreRunCounts};
 
 use claim_gate::{Batch, Terms};
+use closing::closing_text;
 use remit::{RunCounts, count_run};
 use std::alloc::Global;
 
-/// A request to count the records of a run's remittance or not, and the counts of the last run.
+/// A request to count the records of a run's remittance or not, and to add up its closing balances
+/// or not, and what the last run yields of both.
 pub struct Counting {
     is_requested: bool,
     counts: Option<RunCounts>,
+    closes: bool,
+    closing: Option<Vec<u8>>,
 }
 
 impl Drop for Counting {
@@ -17,6 +23,8 @@ impl Drop for Counting {
         let Counting {
             is_requested: _,
             counts: _,
+            closes: _,
+            closing: _,
         } = self;
     }
 }
@@ -27,6 +35,8 @@ impl Counting {
         Counting {
             is_requested: false,
             counts: None,
+            closes: false,
+            closing: None,
         }
     }
 
@@ -35,12 +45,31 @@ impl Counting {
         Counting {
             is_requested: true,
             counts: None,
+            closes: false,
+            closing: None,
         }
+    }
+
+    /// Requests also the closing balances of the next run, which takes one more pass over the files.
+    pub fn request_closing(&mut self) {
+        self.closes = true;
     }
 
     /// Returns the counts of the last run, if they were requested and memory sufficed for them.
     pub fn counts(&self) -> Option<&RunCounts> {
         self.counts.as_ref()
+    }
+
+    /// Returns the closing balances of the last run as a file of balances, if they were requested
+    /// and memory sufficed for them.
+    pub fn closing(&self) -> Option<&[u8]>
+        ensures { option_map (λ text. text.now) result
+            ≡ option_map (λ text. text.items) self.now.closing }
+    {
+        match &self.closing {
+            Some(text) => Some(text.as_slice()),
+            None => None,
+        }
     }
 
     // Counts the records of this run if counts are requested.
@@ -50,6 +79,20 @@ impl Counting {
     {
         self.counts = if self.is_requested {
             count_run(alloc, terms, batch).ok()
+        } else {
+            None
+        };
+    }
+
+    // Adds up the closing balances of this run if they are requested.
+    pub(crate) fn close(&mut self, alloc: Global, terms: &Terms, batch: &Batch)
+        requires same_terms { batch.now.terms ≡ terms.now }
+        ensures closing { IfSome self.new.closing
+            (λ text. IsClosingText terms.now batch.now.journal text.items) }
+        ensures counts { self.new.counts ≡ self.old.counts }
+    {
+        self.closing = if self.closes {
+            closing_text(alloc, terms, batch).ok()
         } else {
             None
         };

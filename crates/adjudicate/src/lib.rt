@@ -3,15 +3,15 @@
 //!
 //! `value` has the command `value`, which `evaluation` implements. `check` has the command `check`,
 //! which reports the gaps and overlaps of a plan's tables. `run` has the command `run`, which
-//! settles claims and writes their remittance; `counting` keeps the counts of its records. `laws`
-//! says that a remittance in an order is the only one. `stop` has every error of the commands, with
+//! settles claims and writes their remittance; `counting` keeps the counts of its records and its
+//! closing balances. `laws` says that a remittance in an order is the only one. `stop` has every error of the commands, with
 //! its line and its exit status.
 //!
 //! Plans and their evaluation come from `tables`, the check of a plan and the violations of its hit
 //! policies come from `cutplan`, cells and values come from `feel_tests`, and numbers and the
 //! writer come from `fixpoint`. A run goes from the texts to their terms (`claim_gate`), to a
-//! finished journal (`crew`) and to its remittance (`remit`), for which `orders` defines what an
-//! order of acceptance determines.
+//! finished journal (`crew`), to its remittance (`remit`), for which `orders` defines what an order
+//! of acceptance determines, and to its closing balances (`closing`).
 //!
 //! Begin with `value.rt`, `check.rt` and `run.rt`: the contracts of `do_value`, `do_check`,
 //! `do_errors_check` and `do_run` are the promises of the commands. Then read

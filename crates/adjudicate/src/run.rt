@@ -8,7 +8,7 @@ ghost use Rattle.dtable.specs.PlanFile.{IsPlanText};
 ghost use Rattle.evaluation.specs.Stop.{WritesText};
 ghost use Rattle.journal.specs.declared.order.Order.TheVariants.{Any};
 ghost use Rattle.orders.specs.Remittance.{IsOrderedRemittanceOf};
-ghost use Rattle.adjudicate.specs.RunText.{IsCountedRemittance, IsOrderedRemittance, IsRemittance, IsRemittanceOf, WritesCounted, run_texts};
+ghost use Rattle.adjudicate.specs.RunText.{IsClosedRemittance, IsCountedRemittance, IsOrderedRemittance, IsRemittance, IsRemittanceOf, WritesClosed, WritesCounted, run_texts};
 ghost use Rattle.adjudicate.specs.RunStop.{IsRunReason, StopsRemittance, WritesRemittanceUntil};
 ghost use Rattle.adjudicate.specs.Stop.{failed_after};
 
@@ -75,8 +75,8 @@ pub fn do_run<R: Threads + Wait + Sync + AllocGlobal, W: Write>(
 /// `Order::Any`, the texts, the cutoff and the order determine the remittance
 /// (`texts_have_one_remittance`), whatever the number of workers.
 ///
-/// The records of the remittance are counted if `counting` requests it. The counts are missing if
-/// memory runs out for them, which is not an error.
+/// The records of the remittance are counted if `counting` requests it, and the closing balances
+/// are added up. Either is missing if memory runs out for it, which is not an error.
 pub fn do_counted_run<R: Threads + Wait + Sync + AllocGlobal, W: Write>(
     rt: &R,
     input: RunInput,
@@ -92,6 +92,9 @@ pub fn do_counted_run<R: Threads + Wait + Sync + AllocGlobal, W: Write>(
     ensures counted { OnOk result (IfSome counting.new.counts
         (IsCountedRemittance (run_texts input.entry)
         (W.contents (writer_of out.old)) (W.contents (writer_of out.new)))) }
+    ensures closed { OnOk result (IfSome counting.new.closing (λ closing.
+        IsClosedRemittance (run_texts input.entry)
+        (W.contents (writer_of out.old)) (W.contents (writer_of out.new)) closing.items)) }
     ensures workers { OnOk result (IsWorkerCount input.entry.workers) }
     ensures reason { IfErr result (IsRunReason (run_texts input.entry) input.entry.workers) }
     ensures stopped { IfErr result (WritesRemittanceUntil (run_texts input.entry)
@@ -124,6 +127,9 @@ fn run_plan<R: Threads + Wait + Sync + AllocGlobal, W: Write>(
     ensures counted { OnOk result (IfSome counting.new.counts
         (IsCountedRemittance (run_texts input.entry)
         (W.contents (writer_of out.old)) (W.contents (writer_of out.new)))) }
+    ensures closed { OnOk result (IfSome counting.new.closing (λ closing.
+        IsClosedRemittance (run_texts input.entry)
+        (W.contents (writer_of out.old)) (W.contents (writer_of out.new)) closing.items)) }
     ensures workers { OnOk result (IsWorkerCount input.entry.workers) }
     ensures reason { IfErr result (IsRunReason (run_texts input.entry) input.entry.workers) }
     ensures stopped { IfErr result (WritesRemittanceUntil (run_texts input.entry)
@@ -160,6 +166,9 @@ fn write_remittance<R: Threads + Wait + Sync + AllocGlobal, W: Write>(
         (W.contents (writer_of out.old)) (W.contents (writer_of out.new))) }
     ensures counted { OnOk result (IfSome counting.new.counts (WritesCounted terms.now
         (W.contents (writer_of out.old)) (W.contents (writer_of out.new)))) }
+    ensures closed { OnOk result (IfSome counting.new.closing (λ closing.
+        WritesClosed terms.now
+        (W.contents (writer_of out.old)) (W.contents (writer_of out.new)) closing.items)) }
     ensures workers { OnOk result (IsWorkerCount workers) }
     ensures stopped { IfErr result (StopsRemittance terms.now workers
         (W.contents (writer_of out.old)) (W.contents (writer_of out.new))) }
@@ -172,5 +181,6 @@ fn write_remittance<R: Threads + Wait + Sync + AllocGlobal, W: Write>(
     let batch = crew::run(rt, rt.alloc(), terms, workers)?;
     write_report_by_threads(rt, rt.alloc(), terms, &batch, out)?;
     counting.count(rt.alloc(), terms, &batch);
+    counting.close(rt.alloc(), terms, &batch);
     Ok(())
 }

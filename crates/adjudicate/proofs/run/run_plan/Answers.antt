@@ -1,7 +1,7 @@
 use Rattle.std.proofs.lemmas.Result.{err_from_is_err_and}
 use Rattle.adjudicate.specs.RunText.{AreTermsOfTexts, run_texts}
 use Rattle.adjudicate.proofs.Ordered.{ordered_over}
-use Rattle.adjudicate.proofs.Remittances.{counted_over, failed_by_terms, kept_by_terms, reason_of_terms, reasons_over, stopped_over, whole_over}
+use Rattle.adjudicate.proofs.Remittances.{closed_over, counted_over, failed_by_terms, kept_by_terms, reason_of_terms, reasons_over, stopped_over, whole_over}
 use Rattle.adjudicate.proofs.run.run_plan.Goals as goal
 
 pub returns-in_err-terms-clause-reason : goal.returns-in_err-terms-clause-reason
@@ -63,3 +63,12 @@ returns-clause-stopped g c =
       are_terms = c.in_ok-terms.ensures.ok;
     } in
     stopped_over (run_texts c.args.input) c.in_ok-terms.terms over _ _ c.args.input.workers c.write_remittance-done.result c.write_remittance-done.ensures.stopped
+
+pub returns-clause-closed : goal.returns-clause-closed
+returns-clause-closed g c =
+    let over : AreTermsOfTexts (run_texts c.args.input) c.in_ok-terms.terms = record {
+      plan = c.args.plan.now;
+      spelled = c.requires.spelled;
+      are_terms = c.in_ok-terms.ensures.ok;
+    } in
+    closed_over (run_texts c.args.input) c.in_ok-terms.terms over _ _ _ c.write_remittance-done.result c.write_remittance-done.ensures.closed

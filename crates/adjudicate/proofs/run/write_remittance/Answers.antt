@@ -2,7 +2,7 @@ use Rattle.std.proofs.Common.{arith}
 use Rattle.std.proofs.lemmas.Grind.{common_steps}
 use Rattle.std.proofs.lemmas.Result.{err_from_is_err_and}
 use Rattle.adjudicate.proofs.Ordered.{writes_in_order}
-use Rattle.adjudicate.proofs.Remittances.{counts_written, failed_by_run, stops_by_run, stops_by_write, writes_remittance}
+use Rattle.adjudicate.proofs.Remittances.{closing_written, counts_written, failed_by_run, stops_by_run, stops_by_write, writes_remittance}
 use Rattle.adjudicate.proofs.run.write_remittance.Goals as goal
 
 pub returns-in_err-batch-clause-stopped : goal.returns-in_err-batch-clause-stopped
@@ -23,7 +23,15 @@ returns-clause-ordered g c = writes_in_order c.args.terms.now _ c.in_ok-batch.en
 
 pub returns-clause-counted : goal.returns-clause-counted
 returns-clause-counted g c =
-    counts_written c.args.terms.now _ c.in_ok-batch.ensures.finished _ _ _ c.in_ok-write_report_by_threads.ensures.written c.count.ensures
+    rw c.close.ensures.counts
+    (counts_written c.args.terms.now _ c.in_ok-batch.ensures.finished _ _ _ c.in_ok-write_report_by_threads.ensures.written c.count.ensures)
+
+pub returns-clause-closed : goal.returns-clause-closed
+returns-clause-closed g c =
+    closing_written c.args.terms.now _ c.in_ok-batch.ensures.finished _ _ _ c.in_ok-write_report_by_threads.ensures.written c.close.ensures.closing
+
+pub close-requires : goal.close-requires
+close-requires g c = record { same_terms = c.in_ok-batch.ensures.terms }
 
 pub returns-in_err-batch-clause-failed : goal.returns-in_err-batch-clause-failed
 returns-in_err-batch-clause-failed g c =
