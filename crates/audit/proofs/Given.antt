@@ -1,5 +1,5 @@
 -- The reader of claims beside the gate that accepts them.
-use Rattle.std.proofs.Common.{inl, inr, ◌≡◌, ◌≢◌, ℕ, zero, suc, ◌+◌, ◌<◌, ◌≤◌, ◌==◌, Bool, true, false, cond, List, [], ◌∷◌, length, Option, Some, None, refl, sym, ap, subst, ◌∙◌, arith, add-zero, eqb-true}
+use Rattle.std.proofs.Common.{inl, inr, ◌≡◌, ◌≢◌, ℕ, zero, suc, ◌+◌, ◌≤◌, ◌==◌, true, false, cond, List, [], ◌∷◌, length, Option, None, refl, sym, ap, subst, ◌∙◌, arith, add-zero, eqb-true}
 use Rattle.std.proofs.lemmas.Bool.{both_ways, cases_Bool, eq-eqb}
 use Rattle.journal.specs.Events.{accepted_count, places, reached}
 use Rattle.journal.specs.InOrder.{IsDue}
@@ -8,7 +8,7 @@ use Rattle.journal.specs.declared.event.Event.TheVariants.{Close}
 use Rattle.claim_gate.specs.Parts.{GateParts}
 use Rattle.claim_gate.specs.Replies.{HasClaims, first_journal}
 use Rattle.claim_gate.specs.Shared.{IsDueAt, IsLawful}
-use Rattle.claim_gate.specs.Terms.{ForTerms, IsTermsOf, TermsParts}
+use Rattle.claim_gate.specs.Terms.{ForTerms, TermsParts}
 use Rattle.claim_gate.specs.declared.offer.Offer.{Offer}
 use Rattle.ordered_claims.specs.OrderedParts.{BeginsUnder, GivesNext, HasAcceptedGiven, IsNextOffer, OrderedParts, given_of}
 use Rattle.audit.specs.Settling.{AcceptsNone, AcceptsOne, AreAccepted, AreAllGiven, IsIdle}

@@ -1,5 +1,5 @@
 -- What holds for each reading of terms holds, where the terms have a reading and it is a test or an equation of numbers.
-use Rattle.std.proofs.Common.{inl, inr, ◌≡◌, ℕ, ◌==◌, Bool, true, false, sym, ◌∙◌, eqb-true}
+use Rattle.std.proofs.Common.{inl, inr, ◌≡◌, ℕ, ◌==◌, Bool, true, false, eqb-true}
 use Rattle.std.proofs.lemmas.Bool.{both_ways, cases_Bool, eq-eqb}
 use Rattle.claim_gate.specs.Terms.{ForTerms, TermsParts}
 

@@ -19,6 +19,10 @@ differ_from_ne xs ys r test is_true same = both_ways (bytes_eq xs ys) (not-true 
 pub same_from_ne : (xs ys : List ℕ) (r : Bool) → r ≡ not (bytes_eq xs ys) → r ≡ false → xs ≡ ys
 same_from_ne xs ys r test is_false = (bytes_eq-Decides xs ys).0 (not-false (bytes_eq xs ys) (sym test ∙ is_false))
 
+-- what the test of two texts by `==` says
+pub same_from_eq : (xs ys : List ℕ) (r : Bool) → r ≡ bytes_eq xs ys → r ≡ true → xs ≡ ys
+same_from_eq xs ys r test is_true = (bytes_eq-Decides xs ys).0 (sym test ∙ is_true)
+
 -- both texts begin with these whole records, which have this many bytes in all
 pub record HasShared (given due : List ℕ) (number start : ℕ) : Type 0 where
   pub before : List (List ℕ)

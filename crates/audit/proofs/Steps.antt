@@ -1,5 +1,5 @@
 -- The steps of a run of one thread: what each call of the gate leaves.
-use Rattle.std.proofs.Common.{inl, inr, ◌≡◌, ◌≢◌, ℕ, zero, suc, ◌+◌, ◌<◌, ◌≤◌, ◌||◌, ◌&&◌, Bool, true, false, List, [], ◌∷◌, ◌++◌, length, refl, sym, ap, subst, ◌∙◌, arith}
+use Rattle.std.proofs.Common.{inl, inr, ◌≡◌, ◌≢◌, ℕ, zero, suc, ◌+◌, ◌<◌, ◌≤◌, ◌&&◌, true, false, List, [], ◌∷◌, ◌++◌, length, refl, sym, ap, subst, ◌∙◌, arith}
 use Rattle.std.proofs.lemmas.Bool.{both_ways, cases_Bool, cases_lt, or_cases, or_left, or_right}
 use Rattle.std.proofs.lemmas.List.{take_all}
 use Rattle.std.proofs.lemmas.Slice.Zip.{AllZip-long}
@@ -10,14 +10,14 @@ use Rattle.settlement.specs.declared.acc.Acc.{Acc}
 use Rattle.settlement.specs.declared.claim.Claim.{Claim}
 use Rattle.settlement.specs.declared.outcome.Outcome.{Outcome}
 use Rattle.intake_csv.specs.Laws.{ClaimsHaveFields}
-use Rattle.journal.specs.Terms.{Terms, claims_of}
+use Rattle.journal.specs.Terms.{Terms}
 use Rattle.journal.specs.Events.{accepted_count, accepts, all_ended, closed, due, has_decision, has_end, has_take, is_close, is_end, places, reached}
 use Rattle.journal.specs.Gate.{GateAt, LeadsTo, OfferReply, Offers, EndReply, Ends, TakeReply, Takes, FinishReply, Finishes}
 use Rattle.journal.specs.InOrder.{AreFirstInOrder}
 use Rattle.journal.specs.Laws.{JobsAreStable}
 use Rattle.journal.specs.Settled.{outcome_of}
 use Rattle.journal.specs.declared.order.Order.TheVariants.{Any}
-use Rattle.journal.specs.Lawful.{Finished, IsReady, Lawful, closing}
+use Rattle.journal.specs.Lawful.{Finished, IsReady, closing}
 use Rattle.journal.specs.declared.event.Event.{Event}
 use Rattle.journal.specs.declared.event.Event.TheVariants.{Accept, End, Take, Decide}
 use Rattle.claim_gate.proofs.Sharing.{any_goes_on, job_stays}
@@ -26,7 +26,7 @@ use Rattle.claim_gate.specs.Shared.{IsLawful, IsOrdered}
 use Rattle.claim_gate.specs.Terms.{AreClaimsOf, ForTerms, IsTermsOf, TermsParts}
 use Rattle.claim_gate.specs.declared.job.Job.{Job}
 use Rattle.audit.proofs.Fields.{accepted-of, fields-decided}
-use Rattle.audit.specs.Settling.{AcceptsNone, AcceptsOne, AreDecided, HasOffered, HasTaken, IsAtWork, IsIdle, OffersNext, is_past}
+use Rattle.audit.specs.Settling.{AcceptsNone, AcceptsOne, HasOffered, HasTaken, IsAtWork, IsIdle, is_past}
 use Rattle.audit.proofs.Appended.{Alike, accepted_more, alike_further, closing_alike, closing_ends, decide_accepts, decide_places, decided_further, decided_now, decided_stays, decided_taken, end_alike, ended_now, not_decided_yet, not_taken_yet, places_more, places_of_others, take_accepts, take_decides, take_places, taken_now, taken_stays}
 use Rattle.audit.proofs.Readings.{equal, fails, holds}
 

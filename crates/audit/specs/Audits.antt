@@ -1,5 +1,5 @@
 -- What an audit says of some bytes.
-use Rattle.std.specs.Prelude.{◌≡◌, ◌≢◌, ℕ, List, Option}
+use Rattle.std.specs.Prelude.{◌≢◌, ℕ, List}
 use Rattle.tables.specs.Plan.{PlanParts}
 use Rattle.dtable.specs.PlanFile.{IsPlanText}
 use Rattle.faults.specs.declared.terms_fault.TermsFault.TheVariants as terms

@@ -1,5 +1,5 @@
 -- The first record in which two remittances differ.
-use Rattle.std.specs.Prelude.{◌≡◌, ◌≢◌, ◌≤◌, ◌+◌, ℕ, List, length, take, drop}
+use Rattle.std.specs.Prelude.{◌≡◌, ◌≢◌, ℕ, List, length, take, drop}
 use Rattle.std.specs.List.{All, concat}
 use Rattle.audit.specs.RecordEnds.{IsFirstRecord, IsRecord}
 use Rattle.audit.specs.declared.difference.Difference.{Difference}

@@ -1,4 +1,4 @@
-use Rattle.std.proofs.Common.{◌≡◌, [], ap, sym, ◌∙◌, rules}
+use Rattle.std.proofs.Common.{◌≡◌, [], rules}
 use Rattle.fixpoint.specs.Out.{writer_of}
 use Rattle.audit.proofs.Audits.{written_remittance}
 use Rattle.audit.proofs.auditing.ordered_remittance.Goals as goal

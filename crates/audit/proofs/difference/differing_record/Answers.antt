@@ -2,7 +2,7 @@ use Rattle.std.proofs.Common.{arith}
 use Rattle.std.proofs.lemmas.Grind.{common_steps}
 use Rattle.std.proofs.lemmas.List.{take_rest}
 use Rattle.audit.specs.declared.difference.Difference.{Difference}
-use Rattle.audit.proofs.SharedRecords.{differ_from_ne, first_differs, same_from_ne, shares_more}
+use Rattle.audit.proofs.SharedRecords.{differ_from_ne, first_differs, same_from_ne, shares_more, shares_none}
 use Rattle.audit.proofs.difference.differing_record.Goals as goal
 
 pub returns-then-ne : goal.returns-then-ne
@@ -18,6 +18,9 @@ returns-then-ne c =
     } in
     first_differs given due difference c.records.invariant (rw (take_rest given start) at c.first_record-found_bytes.ensures)
     (rw (take_rest due start) at c.first_record-expected_bytes.ensures) (differ_from_ne _ _ c.ne.result (rw (take_rest given start, take_rest due start) at c.ne.ensures) c.if-ne.true)
+
+pub records-init : goal.records-init
+records-init c = shares_none c.args.given.now c.args.due.now
 
 pub records-preserved : goal.records-preserved
 records-preserved c =

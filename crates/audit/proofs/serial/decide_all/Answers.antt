@@ -1,4 +1,4 @@
-use Rattle.std.proofs.Common.{◌≡◌, ◌∙◌, ap, refl, sym}
+use Rattle.std.proofs.Common.{◌∙◌, ap}
 use Rattle.claim_gate.specs.Parts.{GateParts}
 use Rattle.audit.proofs.Given.{accepted_first, idle_first}
 use Rattle.audit.proofs.Steps.{not_unfinished, ordered_as}

@@ -1,5 +1,4 @@
-use Rattle.std.proofs.Common.{◌≡◌, ap, refl, subst, sym}
-use Rattle.audit.proofs.Steps.{accepts_one, closed_same, has_offered, in_turn, offer_runs}
+use Rattle.audit.proofs.Steps.{accepts_one, has_offered}
 use Rattle.audit.proofs.serial.offer_next.Goals as goal
 
 pub returns-in-Ok : goal.returns-in-Ok

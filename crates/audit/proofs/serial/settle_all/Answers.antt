@@ -1,4 +1,4 @@
-use Rattle.std.proofs.Common.{◌≡◌, ◌∙◌, ap, rules, subst, sym}
+use Rattle.std.proofs.Common.{◌∙◌, ap, subst, sym}
 use Rattle.claim_gate.specs.Parts.{GateParts}
 use Rattle.claim_gate.specs.Terms.{ForTerms}
 use Rattle.claim_gate.specs.Replies.{IsFiled}
