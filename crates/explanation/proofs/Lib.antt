@@ -1,0 +1,16 @@
+pub mod Remaining
+pub mod Sharing
+pub mod Leaving
+pub mod Settling
+pub mod Fields
+pub mod Rows
+pub mod Binding
+pub mod Listing
+pub mod Texts
+pub mod Records
+pub mod Appending
+pub mod Limits
+pub mod Cases
+pub mod Accumulators
+pub mod TableFacts
+pub mod Claims

@@ -1,0 +1,59 @@
+-- The text of an explanation, and the errors.
+use Rattle.std.proofs.Common.{inl, inr, ◌≡◌, ◌≢◌, ℕ, List, Option, Some, None, Result, Ok, Err, IfErr, IfOk, option_map, refl, sym, subst}
+use Rattle.std.specs.Global.{Vec}
+use Rattle.tables.specs.Plan.{PlanParts}
+use Rattle.dtable.specs.PlanFile.{IsPlanText}
+use Rattle.faults.specs.declared.plan_fault.PlanCause.TheVariants as cause
+use Rattle.faults.specs.declared.plan_fault.PlanFault.{PlanFault}
+use Rattle.faults.specs.declared.terms_fault.TermsFault.{TermsFault}
+use Rattle.faults.specs.declared.terms_fault.TermsFault.TheVariants as terms
+use Rattle.journal.specs.declared.order.Order.{Order}
+use Rattle.claim_gate.specs.Terms.{TermsParts}
+use Rattle.claim_gate.specs.TermsFault.{HasTermsFault}
+use Rattle.evaluation.specs.declared.stop.ValueStop.TheVariants as value
+use Rattle.adjudicate.specs.RunStop.{IsStopOfTerms}
+use Rattle.adjudicate.specs.RunText.{AreTermsUnder, RunTexts}
+use Rattle.adjudicate.specs.Stop.{IsStopOfPlan}
+use Rattle.adjudicate.specs.declared.stop.Stop.{Stop}
+use Rattle.adjudicate.specs.declared.stop.Stop.TheVariants as stop
+use Rattle.explanation.specs.Explained.{AreTermsInOrder, IsExplainReason, IsTextOf}
+use Rattle.explanation.specs.Explanation.{IsTextOver}
+use Rattle.explanation.specs.declared.row.Place.{Place}
+use Rattle.explanation.specs.declared.format.Format.{Format}
+
+-- a plan's text that denotes no plan is a reason for the error
+pub reason_of_plan : (texts : RunTexts) (fault : PlanFault) (s : Stop) → (fault.cause ≢ cause.OutOfMemory → (plan : PlanParts) → ¬ IsPlanText texts.plan plan)
+    → IsStopOfPlan fault s → IsExplainReason texts s
+reason_of_plan texts fault (stop.Value (value.Plan same)) none made =
+    let P : PlanFault → Type 0 = λ f. f.cause ≢ cause.OutOfMemory in
+    (subst P (sym made.0) made.1, none made.1)
+reason_of_plan texts fault (stop.Value value.NoMemory) none made = tt
+reason_of_plan texts fault _ none made = absurd made
+
+-- texts that form no terms under the plan are a reason for the error
+pub reason_of_terms : (texts : RunTexts) (plan : PlanParts) (fault : TermsFault) (s : Stop) → IsPlanText texts.plan plan → HasTermsFault plan texts.files texts.balances fault
+    → IsStopOfTerms fault s → IsExplainReason texts s
+reason_of_terms texts plan fault (stop.Terms same) spelled has made =
+    let P : TermsFault → Type 0 = λ f. f ≢ terms.OutOfMemory in
+    let Q : TermsFault → Type 0 = HasTermsFault plan texts.files texts.balances in
+    (plan, spelled, subst Q (sym made.0) has, subst P (sym made.0) made.1)
+reason_of_terms texts plan fault (stop.Value value.NoMemory) spelled has made = tt
+reason_of_terms texts plan fault _ spelled has made = absurd made
+
+-- a lack of memory is a reason for any texts
+pub reason_of_memory : (texts : RunTexts) (s : Stop) → s ≡ stop.Value value.NoMemory → IsExplainReason texts s
+reason_of_memory texts s memory = subst (IsExplainReason texts) (sym memory) tt
+
+-- an explanation over terms of the texts is one of the texts
+pub text_of_texts : (order : Order) (texts : RunTexts) (plan : PlanParts) (parts : TermsParts) (place : Place) (format : Format) (text : Option (List ℕ))
+    → IsPlanText texts.plan plan → AreTermsUnder plan texts parts → parts.order ≡ order → IsTextOver parts place format text → IsTextOf order texts place format text
+text_of_texts order texts plan parts place format (Some text) spelled are ordered is = record {
+  parts = parts;
+  terms = record { over = record { plan = plan; spelled = spelled; are_terms = are }; ordered = ordered };
+  explains = is;
+}
+text_of_texts order texts plan parts place format None spelled are ordered is = record {
+  parts = parts;
+  terms = record { over = record { plan = plan; spelled = spelled; are_terms = are }; ordered = ordered };
+  missing = is;
+}

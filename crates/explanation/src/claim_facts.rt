@@ -1,0 +1,268 @@
+//! The facts of a record: of a claim that is settled or late, or of a refused record.
+ghost use Rattle.std.specs.Prelude.{◌≡◌, ◌≢◌, ◌≤◌, ◌++◌, Some, length, IfOk, OnOk};
+ghost use Rattle.csv.specs.Records.{fields_of};
+ghost use Rattle.settlement.specs.Claim.{IsClaimOf};
+ghost use Rattle.settlement.specs.Settlement.{outcome};
+ghost use Rattle.intake_csv.specs.declared.rows.Row.TheVariants.{Good};
+ghost use Rattle.journal.specs.Events.{claim_filed};
+ghost use Rattle.journal.specs.declared.order.Order.TheVariants.{Any};
+ghost use Rattle.claim_gate.specs.Terms.{ForTerms};
+ghost use Rattle.explanation.specs.Cases.{filed_of};
+ghost use Rattle.explanation.specs.Explanation.{IsFactsOf, IsPlace, IsRowOf};
+ghost use Rattle.explanation.specs.Steps.{computation_facts, decided_facts, late_facts, outcome_facts, record_facts, refused_facts, settled_facts};
+
+use crate::fact::Facts;
+use crate::family::outcome_of;
+use crate::given::inputs_of;
+use crate::record::{fill_claim, fill_refused, record_line};
+use crate::row::Place;
+use crate::search::{Case, Wanted, find_case};
+use crate::settlement_steps::{
+    add_accumulators, add_amounts, add_claim, add_place, add_roles, verdict_text,
+};
+use crate::table::add_tables;
+use crate::words::fault_text;
+use claim_gate::{Terms, claim_lists_exist};
+use csv::ByteRecord;
+use cutplan::{CutPlan, compile};
+use intake_csv::{Row, RowFault, claims_have_the_plan_s_fields};
+use settlement::{Acc, Adjudicator, Claim, Outcome, after};
+use std::alloc::{AllocError, Global};
+use tables::{Env, Inputs, Plan};
+
+/// Returns the facts of the row of a provider's file.
+pub(crate) fn facts_of_row(
+    alloc: Global,
+    terms: &Terms,
+    place: Place,
+    row: &Row,
+) -> Result<Facts, AllocError>
+    requires ordered { terms.now.order ≢ Any }
+    requires there { IsPlace terms.now place }
+    requires row { IsRowOf terms.now place (Some row.now) }
+    ensures { IfOk result (λ facts. ForTerms terms.now
+        (λ T. IsFactsOf terms.now.order T place.provider facts row.now)) }
+{
+    match row {
+        Row::Good {
+            number,
+            place: index,
+            claim,
+        } => {
+            let wanted = Wanted {
+                provider: place.provider,
+                place: *index,
+                claim,
+            };
+            facts_of_claim(alloc, terms, *number, &wanted)
+        }
+        Row::Bad { number, fault } => {
+            facts_of_refused(alloc, terms, place.provider, *number, *fault)
+        }
+    }
+}
+
+fn facts_of_refused(
+    alloc: Global,
+    terms: &Terms,
+    provider: usize,
+    number: usize,
+    fault: RowFault,
+) -> Result<Facts, AllocError>
+    ensures { IfOk result (λ facts.
+        facts ≡ refused_facts terms.now.plan.version provider number fault) }
+{
+    let version = terms.plan().version();
+    let mut facts = Facts::new(alloc);
+    add_place(&mut facts, provider, number)?;
+    facts.add_number(b"this record", b"refused in column", fault.column as u128)?;
+    facts.add(
+        b"this record",
+        b"refused by",
+        fault_text(alloc, fault)?.as_bytes(),
+    )?;
+    let mut line = ByteRecord::new(alloc);
+    fill_refused(alloc, &mut line, version, provider, number, fault)?;
+    add_record(alloc, &mut facts, &line)?;
+    Ok(facts)
+}
+
+// Adds the record of the remittance, without its line end.
+fn add_record(alloc: Global, facts: &mut Facts, line: &ByteRecord) -> Result<(), AllocError>
+    ensures { OnOk result (facts.new ≡ facts.old ++ record_facts (fields_of line.now)) }
+{
+    let text = record_line(alloc, line)?;
+    let end = text.len().saturating_sub(2);
+    facts.add(b"remittance", b"record", &text.as_slice()[..end])
+}
+
+fn facts_of_claim(
+    alloc: Global,
+    terms: &Terms,
+    number: usize,
+    wanted: &Wanted<'_>,
+) -> Result<Facts, AllocError>
+    requires ordered { terms.now.order ≢ Any }
+    requires least { 1 ≤ wanted.now.provider }
+    requires most { wanted.now.provider ≤ length terms.now.files }
+    requires there { ForTerms terms.now
+        (λ T. claim_filed T (filed_of wanted.now) ≡ Some wanted.now.claim.now) }
+    ensures { IfOk result (λ facts. ForTerms terms.now (λ T. IsFactsOf terms.now.order T
+        wanted.now.provider facts (Good number wanted.now.place wanted.now.claim.now))) }
+{
+    // proof: the claim files have lists of claims, and these claims have the fields of the plan
+    claim_lists_exist(terms);
+    claims_have_the_plan_s_fields();
+    let _names = terms.plan().names();
+    let plan = compile(alloc, terms.plan())?;
+    let mut adjudicator = Adjudicator::new(alloc, &plan)?;
+    match find_case(alloc, terms, &mut adjudicator, wanted)? {
+        Case::Accepted { position, acc } => {
+            facts_of_accepted(
+                alloc,
+                terms,
+                &mut adjudicator,
+                number,
+                wanted,
+                position,
+                acc,
+            )
+        }
+        Case::Late { cutoff } => facts_of_late(alloc, terms, number, wanted, cutoff),
+    }
+}
+
+fn facts_of_late(
+    alloc: Global,
+    terms: &Terms,
+    number: usize,
+    wanted: &Wanted<'_>,
+    cutoff: u64,
+) -> Result<Facts, AllocError>
+    ensures { IfOk result (λ facts. facts ≡ late_facts terms.now.plan.version
+        wanted.now.provider number wanted.now.claim.now cutoff) }
+{
+    let version = terms.plan().version();
+    let mut facts = Facts::new(alloc);
+    add_place(&mut facts, wanted.provider, number)?;
+    add_claim(alloc, &mut facts, wanted.claim)?;
+    facts.add_number(b"this claim", b"late after the cutoff", cutoff as u128)?;
+    let mut line = ByteRecord::new(alloc);
+    fill_claim(
+        alloc,
+        &mut line,
+        version,
+        wanted.provider,
+        number,
+        wanted.claim,
+        None,
+    )?;
+    add_record(alloc, &mut facts, &line)?;
+    Ok(facts)
+}
+
+fn facts_of_accepted<'v, 'p>(
+    alloc: Global,
+    terms: &Terms,
+    adjudicator: &mut Adjudicator<'v, CutPlan<'p>>,
+    number: usize,
+    wanted: &Wanted<'_>,
+    position: usize,
+    acc: Acc,
+) -> Result<Facts, AllocError>
+    requires plan { adjudicator.old ≡ terms.now.plan }
+    requires likely { ¬ ¬ IsClaimOf terms.now.plan wanted.now.claim.now }
+    ensures { IfOk result (λ facts. facts ≡ decided_facts terms.now.plan
+        wanted.now.provider number wanted.now.claim.now position acc) }
+{
+    let plan = terms.plan();
+    let claim = wanted.claim;
+    let step = b"this claim";
+    let position = position as u128 + 1;
+    let decided = outcome_of(alloc, terms, adjudicator, claim, acc)?;
+    let mut facts = Facts::new(alloc);
+    add_place(&mut facts, wanted.provider, number)?;
+    add_claim(alloc, &mut facts, claim)?;
+    facts.add_number(step, b"position in the order of acceptance", position)?;
+    add_accumulators(&mut facts, b"before this claim", claim, &acc)?;
+    add_outcome(alloc, &mut facts, plan, claim, acc, &decided)?;
+    let mut line = ByteRecord::new(alloc);
+    let version = plan.version();
+    fill_claim(
+        alloc,
+        &mut line,
+        version,
+        wanted.provider,
+        number,
+        claim,
+        Some(&decided),
+    )?;
+    add_record(alloc, &mut facts, &line)?;
+    Ok(facts)
+}
+
+// Adds the computation of an outcome: the tables, the roles, the amounts, the verdict, and the
+// accumulators after it.
+fn add_outcome(
+    alloc: Global,
+    facts: &mut Facts,
+    plan: &Plan,
+    claim: &Claim,
+    acc: Acc,
+    decided: &Outcome,
+) -> Result<(), AllocError>
+    requires fits { IsClaimOf plan.now claim.now }
+    requires outcome { decided.now ≡ outcome plan.now claim.now acc }
+    ensures { OnOk result (facts.new
+        ≡ facts.old ++ outcome_facts plan.now claim.now acc decided.now) }
+{
+    let given = inputs_of(alloc, plan, claim, &acc)?;
+    add_computation(alloc, facts, &given, plan, &acc, decided)?;
+    let verdict = verdict_text(alloc, decided.verdict)?;
+    facts.add(b"settlement", b"verdict", verdict.as_slice())?;
+    let Some(left) = after(acc, decided) else {
+        unreachable!();
+    };
+    add_accumulators(facts, b"after this claim", claim, &left)
+}
+
+// Adds the tables, and the roles and the amounts if all tables have answers.
+fn add_computation(
+    alloc: Global,
+    facts: &mut Facts,
+    given: &Inputs,
+    plan: &Plan,
+    acc: &Acc,
+    decided: &Outcome,
+) -> Result<(), AllocError>
+    ensures { OnOk result (facts.new ≡ facts.old
+        ++ computation_facts plan.now given.now acc.now decided.now) }
+{
+    match add_tables(alloc, facts, given, plan.tables())? {
+        Some(answers) => {
+            let env = Env::new(plan.tables(), answers);
+            add_settlement(alloc, facts, given, &env, plan, acc, decided)
+        }
+        None => Ok(()),
+    }
+}
+
+fn add_settlement(
+    alloc: Global,
+    facts: &mut Facts,
+    given: &Inputs,
+    env: &Env,
+    plan: &Plan,
+    acc: &Acc,
+    decided: &Outcome,
+) -> Result<(), AllocError>
+    requires { env.now.tables ≡ plan.now.tables }
+    ensures { OnOk result (facts.new ≡ facts.old ++ settled_facts plan.now.roles given.now
+        plan.now (Some env.now.answers) acc.now decided.now) }
+{
+    let Some(roles) = plan.roles() else {
+        return Ok(());
+    };
+    add_roles(alloc, facts, given, env, roles)?;
+    add_amounts(facts, given, env, roles, acc, decided)
+}

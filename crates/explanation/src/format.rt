@@ -1,0 +1,93 @@
+//! The texts of facts: lines for a reader, or records for a program.
+ghost use Rattle.std.specs.Prelude.{◌≡◌, ◌++◌, ◌∷◌, [], IfOk, OnOk, map};
+ghost use Rattle.explanation.specs.Facts.{fact_line, fact_record, fact_text, facts_text, head_text, shown};
+
+use crate::fact::Fact;
+use crate::record::record_line;
+use csv::ByteRecord;
+use std::alloc::{AllocError, Global};
+
+/// The form of an explanation's text.
+#[derive(Clone, Copy)]
+pub enum Format {
+    /// A line for each fact, with `?` in place of each control character.
+    Text,
+    /// A CSV record (RFC 4180) for each fact, after a header: its step, its name and its value.
+    Csv,
+}
+
+/// Returns the text of facts.
+pub(crate) fn facts_text(
+    alloc: Global,
+    format: Format,
+    facts: &[Fact],
+) -> Result<Vec<u8>, AllocError>
+    ensures { IfOk result (λ text. text.items ≡ facts_text format facts.now) }
+{
+    let mut text = Vec::from_slice(alloc, head_of(format))?;
+    for fact in facts {
+        append_fact(alloc, &mut text, format, fact)?;
+    }
+    Ok(text)
+}
+
+fn head_of(format: Format) -> &'static [u8]
+    ensures { result.now ≡ head_text format }
+{
+    match format {
+        Format::Text => b"",
+        Format::Csv => b"step,name,value\r\n",
+    }
+}
+
+fn append_fact(
+    alloc: Global,
+    text: &mut Vec<u8>,
+    format: Format,
+    fact: &Fact,
+) -> Result<(), AllocError>
+    ensures { OnOk result (text.new.items ≡ text.old.items ++ fact_text format fact.now) }
+{
+    match format {
+        Format::Text => append_line(text, fact),
+        Format::Csv => append_record(alloc, text, fact),
+    }
+}
+
+fn append_line(text: &mut Vec<u8>, fact: &Fact) -> Result<(), AllocError>
+    ensures { OnOk result (text.new.items ≡ text.old.items ++ fact_line fact.now) }
+{
+    text.extend_from_slice(fact.step())?;
+    text.extend_from_slice(b", ")?;
+    append_shown(text, fact.name())?;
+    text.extend_from_slice(b": ")?;
+    append_shown(text, fact.value())?;
+    text.push(b'\n')?;
+    Ok(())
+}
+
+fn append_shown(text: &mut Vec<u8>, bytes: &[u8]) -> Result<(), AllocError>
+    ensures { OnOk result (text.new.items ≡ text.old.items ++ map shown bytes.now) }
+{
+    for byte in bytes {
+        text.push(visible_byte(*byte))?;
+    }
+    Ok(())
+}
+
+fn visible_byte(byte: u8) -> u8
+    ensures { result ≡ shown byte }
+{
+    if byte < 32 || byte == 127 { b'?' } else { byte }
+}
+
+fn append_record(alloc: Global, text: &mut Vec<u8>, fact: &Fact) -> Result<(), AllocError>
+    ensures { OnOk result (text.new.items ≡ text.old.items ++ fact_record fact.now) }
+{
+    let mut record = ByteRecord::new(alloc);
+    record.push_field(fact.step())?;
+    record.push_field(fact.name())?;
+    record.push_field(fact.value())?;
+    let line = record_line(alloc, &record)?;
+    text.extend_from_slice(line.as_slice())
+}
