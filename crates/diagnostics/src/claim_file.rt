@@ -1,16 +1,16 @@
 //! Explains a fault of a file of claims or balances, and names the columns that it is about.
 
+use crate::edits::is_one_edit;
 use crate::file_texts::{file_explanation, record_explanation};
-use crate::message::{Message, Part, explain_at};
+use crate::header_reasons::{first_line, reason_of};
+use crate::input_name::FAMILIES_SINCE;
+use crate::message::{Message, Part, dots_if, explain_at, shown_front};
 use crate::plan_node::{document_of, items_after, text_after, version_of};
 use crate::texts::Explanation;
 use csv::{ByteRecord, ReaderBuilder};
 use faults::{FileFault, RowFault, names};
 use std::alloc::{AllocError, Global};
 use toml::Value;
-
-/// The first version of a plan with accumulators for families.
-const FAMILIES_SINCE: i64 = 3;
 
 /// The first version of a plan with accumulators by benefit year.
 const YEARS_SINCE: i64 = 2;
@@ -31,34 +31,46 @@ pub fn explain_file(
     kind: FileKind,
     fault: FileFault,
 ) -> Result<Message, AllocError> {
-    if !is_about_columns(fault) {
+    let is_about_columns = matches!(fault, FileFault::MissingColumn | FileFault::DuplicateColumn);
+    if !is_about_columns {
         return explain_at(alloc, "{}", &[Part::Word(name)], file_explanation(fault));
     }
     let header = header_of(alloc, text)?;
     let mut message = Message::new(alloc);
-    let done = add_file(alloc, &mut message, name, &header, plan, kind, fault);
+    let done = add_file(alloc, &mut message, name, text, &header, plan, kind, fault);
     message.after(done)
-}
-
-fn is_about_columns(fault: FileFault) -> bool {
-    match fault {
-        FileFault::MissingColumn | FileFault::DuplicateColumn => true,
-        FileFault::TooLarge | FileFault::NoHeader | FileFault::OutOfMemory => false,
-    }
 }
 
 fn add_file(
     alloc: Global,
     message: &mut Message,
     name: &str,
+    text: &[u8],
     header: &ByteRecord,
     plan: &[u8],
     kind: FileKind,
     fault: FileFault,
 ) -> Result<(), AllocError> {
     message.sentence("{}", &[Part::Word(name)])?;
+    add_header(message, text)?;
     add_columns(alloc, message, header, plan, kind, fault)?;
-    message.words(file_explanation(fault))
+    let words = file_explanation(fault);
+    if fault == FileFault::MissingColumn {
+        return message.words(reason_of(text, header).unwrap_or(words));
+    }
+    message.words(words)
+}
+
+// Adds the first line of a file, unless it is no text in UTF-8.
+fn add_header(message: &mut Message, text: &[u8]) -> Result<(), AllocError> {
+    let line = str::from_utf8(first_line(text)).unwrap_or("");
+    if line.is_empty() {
+        return Ok(());
+    }
+    let shown = shown_front(line);
+    let dots = dots_if(shown.len() < line.len());
+    let values = [Part::Word(shown), Part::Word(dots)];
+    message.sentence("The first line is: {}{}", &values)
 }
 
 /// Explains the fault of a record of balances in a file of this name. Records count from 1 after the header.
@@ -181,14 +193,31 @@ fn add_column(
     let count = count_of(header, name);
     let value = [Part::Word(name)];
     match fault {
-        FileFault::MissingColumn if count == 0 => {
-            message.sentence("The header has no column `{}`.", &value)
-        }
+        FileFault::MissingColumn if count == 0 => match near_column(header, name) {
+            Some(near) => {
+                let values = [Part::Word(name), Part::Word(near)];
+                message.sentence("The header has no column `{}`, but one `{}`.", &values)
+            }
+            None => message.sentence("The header has no column `{}`.", &value),
+        },
         FileFault::DuplicateColumn if count > 1 => {
             message.sentence("The header has more than one column `{}`.", &value)
         }
         _ => Ok(()),
     }
+}
+
+// The first column whose name differs in case, in spaces round it, or by one edit.
+fn near_column<'h>(header: &'h ByteRecord, name: &str) -> Option<&'h str> {
+    for place in 0..header.len() {
+        let field = header.get(place).unwrap_or(&[]);
+        let is_near = field.trim_ascii().eq_ignore_ascii_case(name.as_bytes())
+            || is_one_edit(field, name.as_bytes());
+        if is_near {
+            return Some(str::from_utf8(field).unwrap_or(""));
+        }
+    }
+    None
 }
 
 fn count_of(header: &ByteRecord, name: &str) -> usize {

@@ -1,19 +1,31 @@
-//! Adds hints: what exactly is wrong at the place of a plan's fault, as far as the document shows it.
+//! Explains a plan's fault by its one cause and its fix, as far as the document at the fault's place shows them.
 
-use crate::cell_hints::{BadCell, Hint};
-use crate::input_name::{add_unknown, near_key};
-use crate::kind::{Kind, kind_of};
+use crate::advice::Advice;
+use crate::cell_hints::cell_advice;
+use crate::input_name::{is_of_families, near_key, table_with_output, unknown_input};
+use crate::kind::{Kind, kind_among, kind_of, kind_of_built_in};
 use crate::message::{Message, Part, shown_front};
 use crate::places::Step;
 use crate::plan_node::{
     Column, count_at, items_after, path_to_table, single_values, tables, text_after, text_at,
     value_at,
 };
+use crate::row::BadCell;
 use crate::shape::{Shape, Type};
 use crate::texts::{Explanation, Level, level_of, plan_explanation};
+use crate::words::{HIT_POLICIES, KINDS, meaning_of};
 use faults::{CellFault, PlanCause, PlanFault, RoleKey};
 use std::alloc::AllocError;
 use toml::Value;
+
+/// The most bytes of a name.
+const NAME_LIMIT_BYTES: usize = 64;
+
+/// The words of cells, which are no names.
+const WORDS_OF_CELLS: [&str; 4] = ["true", "false", "not", "date"];
+
+/// The hit policies.
+const KNOWN_HIT_POLICIES: [&str; 11] = ["U", "A", "P", "F", "O", "R", "C", "C+", "C<", "C>", "C#"];
 
 /// The key at the place of a plan's fault that the fault is about, if it is about one.
 pub fn key_of_fault(
@@ -29,8 +41,7 @@ pub fn key_of_fault(
     }
 }
 
-/// Adds a line that says what is wrong, where the document at the fault's place shows more than the cause does. For a cell it is the cell, with a
-/// mark.
+/// Adds what the document shows at the fault's place: the cell with a mark, or the values that a role may name.
 pub fn add_hints(
     message: &mut Message,
     document: &Value,
@@ -38,35 +49,37 @@ pub fn add_hints(
     fault: &PlanFault,
 ) -> Result<(), AllocError> {
     match fault.cause {
-        PlanCause::Missing => {
-            let shape = shape_of(document, fault);
-            add_missing_key(message, entry, shape.required_keys(), shape.keys())
-        }
-        PlanCause::Role => add_role(message, document, fault.column),
-        PlanCause::Kind => add_wrong_value(message, document, entry, fault),
-        PlanCause::Unknown => add_unknown(message, document, entry, fault.table),
-        PlanCause::Hit => add_hit_policy(message, entry),
-        PlanCause::Cell(cell) => add_cell(message, entry, cell),
-        PlanCause::Toml
-        | PlanCause::Duplicate
-        | PlanCause::Priority
-        | PlanCause::Money
-        | PlanCause::Limit
-        | PlanCause::OutOfMemory => Ok(()),
+        PlanCause::Role => add_values_of_role(message, document, fault.column),
+        PlanCause::Cell(cell) => match text_of(entry) {
+            Some(text) => message.mark(text, cell.at),
+            None => Ok(()),
+        },
+        _ => Ok(()),
     }
 }
 
-/// The cause of a plan's fault and its fix. The text of a cell and the kind of its column may show which fix is the right one.
-pub fn explanation_at(document: &Value, entry: Option<&Value>, fault: &PlanFault) -> Explanation {
-    let words = plan_explanation(fault);
-    let PlanCause::Cell(cell) = fault.cause else {
-        return words;
+/// The cause of a plan's fault and its fix.
+pub fn advice_at<'d>(
+    document: &'d Value,
+    entry: Option<&'d Value>,
+    fault: &PlanFault,
+) -> Advice<'d> {
+    let known = match fault.cause {
+        PlanCause::Missing => {
+            let shape = shape_of(document, fault);
+            missing_key(entry, shape.required_keys(), shape.keys())
+        }
+        PlanCause::Role => role_advice(document, fault.column),
+        PlanCause::Kind => wrong_value(document, entry, fault),
+        PlanCause::Unknown => unknown_input(document, entry, fault.table),
+        PlanCause::Hit => hit_advice(entry),
+        PlanCause::Duplicate => used_name(document, entry, fault),
+        PlanCause::Priority => unlisted_literal(entry),
+        PlanCause::Cell(cell) => advice_of_cell(document, entry, fault, cell),
+        PlanCause::Limit => exceeded_limit(entry, fault),
+        PlanCause::Toml | PlanCause::Money | PlanCause::OutOfMemory => None,
     };
-    let column = Column::of(document, fault.table, fault.column);
-    match cell_advice(document, entry, &column, cell) {
-        Some(hint) => Explanation::new(words.cause, hint.words()),
-        None => words,
-    }
+    known.unwrap_or(Advice::of(plan_explanation(fault)))
 }
 
 // The part of the plan that a fault is located at.
@@ -82,80 +95,93 @@ fn shape_of(document: &Value, fault: &PlanFault) -> Shape {
     }
 }
 
-// Adds the first one of the wanted keys that the entry does not have.
-fn add_missing_key(
-    message: &mut Message,
-    entry: Option<&Value>,
+// The first one of the wanted keys that the entry does not have.
+fn missing_key<'d>(
+    entry: Option<&'d Value>,
     wanted: &[&'static str],
     known: &[&'static str],
-) -> Result<(), AllocError> {
-    let Some(key) = missing_key(entry, wanted) else {
-        return Ok(());
-    };
-    if let Some(near) = near_key(entry, key, known) {
-        let sentence = "The key `{}` is missing; the key `{}` may be a misspelling of it.";
-        return message.sentence(sentence, &[Part::Word(key), Part::Word(near)]);
-    }
-    message.sentence("The key `{}` is missing.", &[Part::Word(key)])
-}
-
-fn missing_key(entry: Option<&Value>, wanted: &[&'static str]) -> Option<&'static str> {
+) -> Option<Advice<'d>> {
     for key in wanted {
         let is_there = match entry {
             Some(entry) => entry.get(*key).is_some(),
             None => false,
         };
         if !is_there {
-            return Some(*key);
+            return Some(advice_of_missing(*key, near_key(entry, *key, known)));
         }
     }
     None
 }
 
-fn add_role(message: &mut Message, document: &Value, number: usize) -> Result<(), AllocError> {
-    let Some(role) = RoleKey::with_number(number) else {
-        return Ok(());
-    };
-    let key = role.key();
-    let roles = value_at(document, &[Step::Key("roles")]);
-    let Some(value) = value_at(document, &[Step::Key("roles"), Step::Key(key)]) else {
-        return add_missing_key(message, roles, &[key], Shape::Roles.keys());
-    };
-    match value.as_str() {
-        Some(word) => add_word_of_role(message, document, role, shown_front(word)),
-        None => {
-            let sentence =
-                "The role `{}` must be a string: put quotes round a number, too, as in \"50\".";
-            message.sentence(sentence, &[Part::Word(key)])
+fn advice_of_missing<'d>(key: &'static str, near: Option<&'d str>) -> Advice<'d> {
+    let word = Part::Word(key);
+    match near {
+        Some(near) => {
+            let cause = "The key `{}` is missing; the key `{}` may be a misspelling of it.";
+            Advice::new(
+                cause,
+                "Correct the name of the key.",
+                word,
+                Part::Word(near),
+            )
         }
+        None => Advice::new("The key `{}` is missing.", "Add the key `{}`.", word, word),
     }
 }
 
-fn add_word_of_role(
-    message: &mut Message,
-    document: &Value,
-    role: RoleKey,
-    word: &str,
-) -> Result<(), AllocError> {
-    let kind = match role {
-        RoleKey::Remarks => {
-            let sentence = "`{}` is not a text output of a table under `R`, `O` or `C`.";
-            return message.sentence(sentence, &[Part::Word(word)]);
-        }
-        RoleKey::Cover => "flag",
+fn role_advice<'d>(document: &'d Value, number: usize) -> Option<Advice<'d>> {
+    let role = RoleKey::with_number(number)?;
+    let key = role.key();
+    let roles = value_at(document, &[Step::Key("roles")]);
+    let Some(value) = value_at(document, &[Step::Key("roles"), Step::Key(key)]) else {
+        return missing_key(roles, &[key], Shape::Roles.keys());
+    };
+    let Some(word) = value.as_str() else {
+        let cause = "The role `{}` must be a string.";
+        let fix = "Put quotes round the value, also round a number: \"50\".";
+        return Some(Advice::new(cause, fix, Part::Word(key), Part::Word(key)));
+    };
+    let word = Part::Word(shown_front(word));
+    let Some(kind) = kind_of_role(role) else {
+        let cause = "`{}` is not a text output of a table under `R`, `O` or `C`.";
+        let fix = "Correct the role, or remove it.";
+        return Some(Advice::new(cause, fix, word, word));
+    };
+    let cause = "`{}` is neither a {} nor the name of one with a single value.";
+    Some(Advice::new(cause, "Correct the role.", word, Part::Word(kind)))
+}
+
+// The kind of a role's value; none for the remarks, which are a list.
+fn kind_of_role(role: RoleKey) -> Option<&'static str> {
+    match role {
+        RoleKey::Remarks => None,
+        RoleKey::Cover => Some("flag"),
         RoleKey::Fee
         | RoleKey::Deductible
         | RoleKey::Copay
         | RoleKey::Rate
         | RoleKey::OopMax
         | RoleKey::FamilyDeductible
-        | RoleKey::FamilyOopMax => "number",
-    };
-    let values = [Part::Word(word), Part::Word(kind), Part::Word(kind)];
-    let sentence = "  `{}` is neither a {} nor the name of one. The plan has the following {}s:";
-    message.add(sentence, &values)?;
-    add_single_values(message, document, kind)?;
-    message.add("\n", &[])
+        | RoleKey::FamilyOopMax => Some("number"),
+    }
+}
+
+// Adds the names that a role may have if its word is none of them.
+fn add_values_of_role(
+    message: &mut Message,
+    document: &Value,
+    number: usize,
+) -> Result<(), AllocError> {
+    if let Some(role) = RoleKey::with_number(number)
+        && let Some(kind) = kind_of_role(role)
+        && let Some(value) = value_at(document, &[Step::Key("roles"), Step::Key(role.key())])
+        && value.as_str().is_some()
+    {
+        message.add("  The plan has the following {}s:", &[Part::Word(kind)])?;
+        add_single_values(message, document, kind)?;
+        return message.add("\n", &[]);
+    }
+    Ok(())
 }
 
 // Appends the names of the single values of this kind.
@@ -179,44 +205,50 @@ fn add_single_values(
     Ok(())
 }
 
-// Adds what is wrong with the value of a key of an entry, or with the entry itself.
-fn add_wrong_value(
-    message: &mut Message,
-    document: &Value,
-    entry: Option<&Value>,
+// What is wrong with the value of a key of an entry, or with the entry itself.
+fn wrong_value<'d>(
+    document: &'d Value,
+    entry: Option<&'d Value>,
     fault: &PlanFault,
-) -> Result<(), AllocError> {
-    let Some(value) = entry else {
-        return Ok(());
-    };
+) -> Option<Advice<'d>> {
+    let value = entry?;
     let shape = shape_of(document, fault);
     if let Some(key) = shape.mistyped_key(value) {
-        let values = [Part::Word(key), Part::Word(Type::at(key).name())];
-        return message.sentence("The value of `{}` must be {}.", &values);
+        let wanted = Type::at(key);
+        let is_list = value.get(key)?.as_array().is_some();
+        let (word, name) = (Part::Word(key), Part::Word(wanted.name()));
+        return Some(Advice::new(
+            "The value of `{}` must be {}.",
+            wanted.fix(is_list),
+            word,
+            name,
+        ));
     }
     match shape {
-        Shape::Field | Shape::Input | Shape::Output => add_wrong_word(message, value),
-        Shape::Rule => add_counts(message, document, value, fault.table),
-        _ => Ok(()),
+        Shape::Field | Shape::Input | Shape::Output => wrong_word(value),
+        Shape::Rule => wrong_count(document, value, fault.table),
+        _ => None,
     }
 }
 
-fn add_wrong_word(message: &mut Message, entry: &Value) -> Result<(), AllocError> {
+fn wrong_word(entry: &Value) -> Option<Advice<'_>> {
     if let Some(name) = text_after(Some(entry), "name")
         && !has_name_form(name.as_bytes())
     {
-        return message.sentence(
-            "`{}` does not have the form of a name.",
-            &[Part::Word(name)],
-        );
+        let fix = "Use ASCII letters, digits and `_`, with no digit at the beginning.";
+        let word = Part::Word(name);
+        return Some(Advice::new("`{}` does not have the form of a name.", fix, word, word));
     }
-    if let Some(word) = text_after(Some(entry), "kind")
-        && Kind::of_word(word).is_none()
-    {
-        let sentence = "`{}` is not a kind; the kinds are `number`, `text`, `flag` and `day`.";
-        return message.sentence(sentence, &[Part::Word(word)]);
+    let word = text_after(Some(entry), "kind")?;
+    match Kind::of_word(word) {
+        Some(_) => None,
+        None => Some(Advice::new(
+            "`{}` is not a kind; the kinds are `number`, `text`, `flag` and `day`.",
+            meaning_of(word, &KINDS).unwrap_or(""),
+            Part::Word(word),
+            Part::Word(word),
+        )),
     }
-    Ok(())
 }
 
 fn has_name_form(name: &[u8]) -> bool {
@@ -231,67 +263,115 @@ fn has_name_form(name: &[u8]) -> bool {
     }
 }
 
-fn add_counts(
-    message: &mut Message,
-    document: &Value,
-    rule: &Value,
-    table: usize,
-) -> Result<(), AllocError> {
+fn wrong_count<'d>(document: &'d Value, rule: &'d Value, table: usize) -> Option<Advice<'d>> {
     let path = path_to_table(table);
     let cells = items_after(Some(rule), "when").len();
     let inputs = count_at(document, path.as_slice(), "inputs");
     let literals = items_after(Some(rule), "then").len();
     let outputs = count_at(document, path.as_slice(), "outputs");
     if cells != inputs {
-        let sentence = "The number of cells in `when` is {}, and the number of inputs is {}.";
-        return message.sentence(sentence, &[Part::Number(cells), Part::Number(inputs)]);
+        return Some(Advice::new(
+            "The number of cells in `when` is {}, and the number of inputs is {}.",
+            "Add or remove cells; `-` is the cell for any value.",
+            Part::Number(cells),
+            Part::Number(inputs),
+        ));
     }
     if literals != outputs {
-        let sentence = "The number of literals in `then` is {}, and the number of outputs is {}.";
-        return message.sentence(sentence, &[Part::Number(literals), Part::Number(outputs)]);
+        return Some(Advice::new(
+            "The number of literals in `then` is {}, and the number of outputs is {}.",
+            "Add or remove literals.",
+            Part::Number(literals),
+            Part::Number(outputs),
+        ));
     }
-    Ok(())
+    None
 }
 
-fn add_hit_policy(message: &mut Message, table: Option<&Value>) -> Result<(), AllocError> {
-    match text_after(table, "hit") {
-        Some(word) if !hit_policies().contains(&word) => {
-            message.sentence("`{}` is not a hit policy.", &[Part::Word(word)])
+fn hit_advice<'d>(table: Option<&'d Value>) -> Option<Advice<'d>> {
+    let word = text_after(table, "hit")?;
+    if KNOWN_HIT_POLICIES.contains(&word) {
+        let cause = "The hit policy `{}` does not fit the outputs of the table.";
+        let fix = "Use one output, and under `C+`, `C<` and `C>` one of numbers.";
+        return Some(Advice::new(cause, fix, Part::Word(word), Part::Word(word)));
+    }
+    let fix = "Use `U`, `A`, `P`, `F`, `O`, `R`, `C`, `C+`, `C<`, `C>` or `C#`.";
+    Some(match meaning_of(word, &HIT_POLICIES) {
+        Some(near) => {
+            let cause = "`{}` is not a hit policy; the word for it is `{}`.";
+            Advice::new(cause, fix, Part::Word(word), Part::Word(near))
         }
-        _ => Ok(()),
-    }
+        None => Advice::new(
+            "`{}` is not a hit policy.",
+            fix,
+            Part::Word(word),
+            Part::Word(word),
+        ),
+    })
 }
 
-fn hit_policies() -> &'static [&'static str] {
-    &["U", "A", "P", "F", "O", "R", "C", "C+", "C<", "C>", "C#"]
+// What already has the name of a field or an output.
+fn used_name<'d>(
+    document: &'d Value,
+    entry: Option<&'d Value>,
+    fault: &PlanFault,
+) -> Option<Advice<'d>> {
+    let name = text_after(entry, "name")?;
+    let fields = items_after(Some(document), "fields");
+    let is_built_in = kind_of_built_in(name).is_some() && !is_of_families(document, name);
+    let cause = if WORDS_OF_CELLS.contains(&name) {
+        "`{}` is a word of cells."
+    } else if is_built_in {
+        "`{}` is a built-in name of the plan."
+    } else if fault.table == 0 || kind_among(fields, name).is_some() {
+        "`{}` is also the name of a field."
+    } else {
+        "`{}` is also the name of an output of table {}."
+    };
+    let number = table_with_output(document, name).unwrap_or(0);
+    let fix = "Choose another name.";
+    Some(Advice::new(cause, fix, Part::Word(name), Part::Number(number)))
 }
 
-fn add_cell(
-    message: &mut Message,
-    entry: Option<&Value>,
-    fault: CellFault,
-) -> Result<(), AllocError> {
-    match text_of(entry) {
-        Some(text) => message.mark(text, fault.at),
-        None => Ok(()),
-    }
+// A name that is too long, or a field too many.
+fn exceeded_limit<'d>(entry: Option<&'d Value>, fault: &PlanFault) -> Option<Advice<'d>> {
+    let name = text_after(entry, "name")?;
+    let words = if name.len() > NAME_LIMIT_BYTES {
+        Explanation::new("The name is longer than 64 bytes.", "Shorten the name.")
+    } else if level_of(fault) == Level::Field {
+        Explanation::new("The plan has more than 32 fields.", "Remove fields.")
+    } else {
+        return None;
+    };
+    Some(Advice::of(words))
 }
 
-fn text_of(entry: Option<&Value>) -> Option<&str> {
+fn unlisted_literal<'d>(entry: Option<&'d Value>) -> Option<Advice<'d>> {
+    let word = Part::Word(shown_front(text_of(entry)?));
+    Some(Advice::new(
+        "The literal {} is not in the `priority` list of its output.",
+        "Correct the literal, or add it to the list.",
+        word,
+        word,
+    ))
+}
+
+fn text_of<'d>(entry: Option<&'d Value>) -> Option<&'d str> {
     entry?.as_str()
 }
 
-fn cell_advice(
-    document: &Value,
-    entry: Option<&Value>,
-    column: &Column<'_>,
-    fault: CellFault,
-) -> Option<Hint> {
+fn advice_of_cell<'d>(
+    document: &'d Value,
+    entry: Option<&'d Value>,
+    fault: &PlanFault,
+    cell: CellFault,
+) -> Option<Advice<'d>> {
+    let column = Column::of(document, fault.table, fault.column);
     let cell = BadCell {
         text: text_of(entry)?.as_bytes(),
-        kind: kind_of(document, column)?,
+        kind: kind_of(document, &column)?,
         is_literal: !column.is_input,
-        at: fault.at,
+        fault: cell,
     };
-    cell.hint(fault.cause)
+    Some(cell_advice(document, &cell))
 }

@@ -1,35 +1,49 @@
 //! Explains why an input may not have the name that it has, and finds similar names.
 
+use crate::advice::Advice;
 use crate::edits::is_one_edit;
-use crate::message::{Message, Part};
-use crate::plan_node::{items_after, single_values, tables, text_after, text_at};
+use crate::message::Part;
+use crate::plan_node::{items_after, single_values, tables, text_after, text_at, version_of};
 use crate::shape::Shape;
-use std::alloc::AllocError;
+use faults::names;
 use toml::Value;
 
-/// Adds what the name of an input is, if the plan has it elsewhere, or a similar name that the input may have. The input is of the table with this
+/// The first version of a plan with accumulators for families.
+pub const FAMILIES_SINCE: i64 = 3;
+
+/// Explains what the name of an input is, if the plan has it elsewhere, or a similar name that the input may have. The input is of the table with this
 /// number.
-pub fn add_unknown(
-    message: &mut Message,
-    document: &Value,
-    input: Option<&Value>,
+pub fn unknown_input<'d>(
+    document: &'d Value,
+    input: Option<&'d Value>,
     table: usize,
-) -> Result<(), AllocError> {
-    let Some(name) = text_after(input, "name") else {
-        return Ok(());
-    };
+) -> Option<Advice<'d>> {
+    let name = text_after(input, "name")?;
     if let Some(number) = table_with_output(document, name) {
-        return add_output(message, document, name, number, table);
+        return Some(output_advice(document, name, number, table));
     }
+    let word = Part::Word(name);
     if let Some(near) = near_value(document, name, table) {
-        let values = [Part::Word(name), Part::Word(near)];
-        return message.sentence("Unknown input `{}`; did you mean `{}`?", &values);
+        let cause = "Unknown input `{}`; did you mean `{}`?";
+        let fix = "Correct the name, or declare a field of this name.";
+        return Some(Advice::new(cause, fix, word, Part::Word(near)));
     }
-    add_unlike(message, document, name)
+    if is_of_families(document, name) {
+        let cause = "`{}` is a name of plans of version 3, and this plan has an earlier version.";
+        let fix = "Set `version` to 3, or remove the input.";
+        return Some(Advice::new(cause, fix, word, word));
+    }
+    Some(unlike_advice(document, name))
 }
 
-// The number of the first table that has an output with this name.
-fn table_with_output(document: &Value, name: &str) -> Option<usize> {
+/// Whether the name is one of plans with families, which this plan is not.
+pub fn is_of_families(document: &Value, name: &str) -> bool {
+    let is_name = name == names::FAMILY || name == names::FAMILY_MET || name == names::FAMILY_OOP;
+    is_name && version_of(document).unwrap_or(1) < FAMILIES_SINCE
+}
+
+/// The number of the first table that has an output with this name.
+pub fn table_with_output(document: &Value, name: &str) -> Option<usize> {
     let mut number = 1usize;
     for table in tables(document) {
         for output in items_after(Some(table), "outputs") {
@@ -42,36 +56,50 @@ fn table_with_output(document: &Value, name: &str) -> Option<usize> {
     None
 }
 
-// Adds why an output of the table with this number cannot be an input of the other table.
-fn add_output<'d>(
-    message: &mut Message,
+// Why an output of the table with this number cannot be an input of the other table.
+fn output_advice<'d>(
     document: &'d Value,
     name: &'d str,
     number: usize,
     table: usize,
-) -> Result<(), AllocError> {
+) -> Advice<'d> {
+    let word = Part::Word(name);
+    if number > table {
+        let cause = "`{}` is an output of table {}, which comes after this one.";
+        let fix = "Move the table with the output `{}` before this one.";
+        return Advice::new(cause, fix, word, Part::Number(number));
+    }
+    if number == table {
+        let cause = "`{}` is an output of this table.";
+        let fix = "Remove the input, or use an output of an earlier table.";
+        return Advice::new(cause, fix, word, word);
+    }
     let hit = text_after(tables(document).get(number.saturating_sub(1)), "hit").unwrap_or("");
-    let sentence = if number > table {
-        "`{}` is an output of table {}, which comes after this one."
-    } else if number == table {
-        "`{}` is an output of this table."
-    } else {
-        "`{}` is a list, since table {} has the hit policy `{}`."
-    };
-    let values = [Part::Word(name), Part::Number(number), Part::Word(hit)];
-    message.sentence(sentence, &values)
+    let cause = "`{}` is a list, since its table has the hit policy `{}`.";
+    let fix = "Remove the input, or choose a hit policy with a single value for the table of `{}`.";
+    Advice::new(cause, fix, word, Part::Word(hit))
 }
 
 // Where the key `fields` is misspelt, no field is known.
-fn add_unlike(message: &mut Message, document: &Value, name: &str) -> Result<(), AllocError> {
+fn unlike_advice<'d>(document: &'d Value, name: &'d str) -> Advice<'d> {
     if document.get("fields").is_none()
         && let Some(near) = near_key(Some(document), "fields", Shape::Plan.keys())
     {
-        let sentence =
+        let cause =
             "Unknown input `{}`. The key `fields` is missing; the key `{}` may be a misspelling of it.";
-        return message.sentence(sentence, &[Part::Word(name), Part::Word(near)]);
+        return Advice::new(
+            cause,
+            "Correct the name of the key.",
+            Part::Word(name),
+            Part::Word(near),
+        );
     }
-    message.sentence("Unknown input `{}`.", &[Part::Word(name)])
+    Advice::new(
+        "Unknown input `{}`.",
+        "Correct the name, or declare the field `{}`.",
+        Part::Word(name),
+        Part::Word(name),
+    )
 }
 
 /// A key of an entry that may be a misspelling of the wanted one. A known key is not one: `when` is one edit away from `then`.

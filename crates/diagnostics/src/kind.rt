@@ -4,6 +4,19 @@ use crate::plan_node::{Column, items_after, tables, text_after, text_at};
 use faults::names;
 use toml::Value;
 
+/// The built-in names of texts.
+const TEXT_NAMES: [&str; 3] = [names::CLAIM, names::MEMBER, names::FAMILY];
+
+/// The built-in names of numbers.
+const NUMBER_NAMES: [&str; 6] = [
+    names::BILLED,
+    names::MET,
+    names::OOP,
+    names::PAID,
+    names::FAMILY_MET,
+    names::FAMILY_OOP,
+];
+
 /// A kind of values: the document's, which may be of a plan that is not valid.
 #[derive(Clone, Copy, PartialEq, Eq)]
 pub enum Kind {
@@ -24,11 +37,6 @@ impl Kind {
             _ => None,
         }
     }
-
-    /// Whether its values can be compared by `<` and `>`.
-    pub fn has_order(self) -> bool {
-        matches!(self, Kind::Number | Kind::Day)
-    }
 }
 
 /// The kind of a column; none if the document does not say it.
@@ -36,9 +44,14 @@ pub fn kind_of(document: &Value, column: &Column<'_>) -> Option<Kind> {
     if !column.is_input {
         return Kind::of_word(column.kind);
     }
-    match kind_of_own(document, column.name) {
+    kind_of_name(document, column.name)
+}
+
+/// The kind of the values of a name; none if the document does not say it.
+pub fn kind_of_name(document: &Value, name: &str) -> Option<Kind> {
+    match kind_of_own(document, name) {
         Some(kind) => Some(kind),
-        None => kind_of_built_in(column.name),
+        None => kind_of_built_in(name),
     }
 }
 
@@ -56,7 +69,8 @@ fn kind_of_own(document: &Value, name: &str) -> Option<Kind> {
     None
 }
 
-fn kind_among(entries: &[Value], name: &str) -> Option<Kind> {
+/// The kind of the first entry with this name.
+pub fn kind_among(entries: &[Value], name: &str) -> Option<Kind> {
     for entry in entries {
         if text_after(Some(entry), "name") == Some(name) {
             return Kind::of_word(text_at(entry, &[], "kind"));
@@ -65,30 +79,15 @@ fn kind_among(entries: &[Value], name: &str) -> Option<Kind> {
     None
 }
 
-// The names that every plan may read, and those of a plan with families.
-fn kind_of_built_in(name: &str) -> Option<Kind> {
-    if text_names().contains(&name) {
+/// The kind of a name that every plan may read, or a plan with families.
+pub fn kind_of_built_in(name: &str) -> Option<Kind> {
+    if TEXT_NAMES.contains(&name) {
         Some(Kind::Text)
-    } else if number_names().contains(&name) {
+    } else if NUMBER_NAMES.contains(&name) {
         Some(Kind::Number)
     } else if name == names::SERVICE {
         Some(Kind::Day)
     } else {
         None
     }
-}
-
-fn text_names() -> &'static [&'static str] {
-    &[names::CLAIM, names::MEMBER, names::FAMILY]
-}
-
-fn number_names() -> &'static [&'static str] {
-    &[
-        names::BILLED,
-        names::MET,
-        names::OOP,
-        names::PAID,
-        names::FAMILY_MET,
-        names::FAMILY_OOP,
-    ]
 }

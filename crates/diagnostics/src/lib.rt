@@ -4,19 +4,28 @@
 //! Begin with `texts.rt`, `file_texts.rt` and `system_texts.rt`, which have the texts as functions over the enums of the faults; `scripts/faults` prints
 //! the list of all faults from them. `message.rt` composes the lines. `plan.rt`, `table.rt`, `argument.rt` and `claim_file.rt` explain a fault of a
 //! plan, of the tables, of an argument and of a file. `plan_node.rt` finds the value of the plan's document at a fault's place by its path
-//! (`value_path.rt`), `hints.rt` says what is wrong there, `input_name.rt` what the name of an input is, and `cell_hints.rt` what to write in place of a
-//! cell or a literal, by the kind of its column (`kind.rt`). `shape.rt` has the keys of a plan and the types of their values.
+//! (`value_path.rt`), `hints.rt` says what is wrong there, and `input_name.rt` what the name of an input is. `shape.rt` has the keys of a plan and the
+//! types of their values.
+//!
+//! `forms.rt` compares a text with a form, as people write cells. `cell_rows.rt`, `cause_rows.rt`, `header_reasons.rt` and `words.rt` are tables of such
+//! forms, each with a sentence; `row.rt` finds the first one that fits a cell, and `cell_hints.rt` makes the advice from it, by the kind of the cell's
+//! column (`kind.rt`). To mend one more mistake, add a row there, and a line to `tests/program/cells.tsv`.
 //!
 //! `scanner.rt` finds the offset of each key and value of a TOML text with the tokens of `toml_parser`, `places.rt` has the offsets, and `position.rt`
 //! counts lines and columns. `unread.rt` compares the keys with those of a plan, and `edits.rt` finds misspellings. `sanitize.rt` replaces control
 //! characters, which a terminal would obey.
 #![tactic(auto)]
 
+mod advice;
 mod argument;
+mod cause_rows;
 mod cell_hints;
+mod cell_rows;
 mod claim_file;
 mod edits;
 mod file_texts;
+mod forms;
+mod header_reasons;
 mod hints;
 mod input_name;
 mod kind;
@@ -25,6 +34,7 @@ mod places;
 mod plan;
 mod plan_node;
 mod position;
+mod row;
 mod sanitize;
 mod scanner;
 mod shape;
@@ -33,6 +43,7 @@ mod table;
 mod texts;
 mod unread;
 mod value_path;
+mod words;
 
 pub use argument::{explain_argument, explain_literal};
 pub use claim_file::{FileKind, explain_file, explain_record};

@@ -1,5 +1,6 @@
 //! The lines of an explanation.
 
+use crate::advice::Advice;
 use crate::places::Step;
 use crate::position::position_of;
 use crate::sanitize::push_printable;
@@ -111,8 +112,16 @@ impl Message {
 
     /// Adds the cause and the fix.
     pub(crate) fn words(&mut self, words: Explanation) -> Result<(), AllocError> {
-        self.sentence("Cause: {}", &[Part::Word(words.cause)])?;
-        self.sentence("Fix: {}", &[Part::Word(words.fix)])
+        self.advice(&Advice::of(words))
+    }
+
+    /// Adds the cause and the fix with their values.
+    pub(crate) fn advice(&mut self, advice: &Advice<'_>) -> Result<(), AllocError> {
+        self.add("  Cause: ", &[])?;
+        self.add(advice.words.cause, &advice.values)?;
+        self.add("\n  Fix: ", &[])?;
+        self.add(advice.words.fix, &advice.values)?;
+        self.add("\n", &[])
     }
 
     /// Appends a part of a line, with the values in place of its pairs of braces. Values without a pair are left out.

@@ -1,12 +1,16 @@
 //! Explains a plan's fault, and where it is in the plan's text.
 
-use crate::hints::{add_hints, explanation_at, key_of_fault};
+use crate::hints::{add_hints, advice_at, key_of_fault};
 use crate::message::{Message, Part, explain_at};
 use crate::plan_node::{add_part_name, path_to_fault, value_at};
-use crate::texts::{Level, level_of, plan_explanation};
+use crate::texts::{Explanation, Level, level_of, plan_explanation};
 use faults::{PlanCause, PlanFault};
 use std::alloc::{AllocError, Global};
 use toml::Value;
+
+/// The fix of a single quote within a string in single quotes.
+const APOSTROPHE: &str =
+    "Put a string that has an apostrophe between three single quotes: '''\"member's\"'''.";
 
 /// Explains the fault of a plan's text, for a file of this name: where it is, the text of the cell, the cause and the fix.
 pub fn explain_plan(
@@ -35,25 +39,39 @@ fn add_text(
         Ok(members) => add_place(message, name, text, &Value::Table(members), fault),
         Err(refusal) if refusal.is_memory() => Err(AllocError),
         Err(refusal) => {
-            add_refusal(message, name, text, &refusal)?;
-            message.words(plan_explanation(fault))
+            let at = add_refusal(message, name, text, &refusal)?;
+            message.words(toml_explanation(text, at, plan_explanation(fault)))
         }
     }
 }
 
-// The place and the message of the TOML reader.
+// The place and the message of the TOML reader. Returns the offset of the place.
 fn add_refusal(
     message: &mut Message,
     name: &str,
     text: &[u8],
     refusal: &toml::de::Error,
-) -> Result<(), AllocError> {
+) -> Result<usize, AllocError> {
     let at = match refusal.span() {
         Some(span) => span.start,
         None => 0,
     };
     message.place(name, text, at)?;
-    message.sentence("{}", &[Part::Word(refusal.message())])
+    message.sentence("{}", &[Part::Word(refusal.message())])?;
+    Ok(at)
+}
+
+// A single quote within a word ends the string, and a table in single brackets occurs once.
+fn toml_explanation(text: &[u8], at: usize, words: Explanation) -> Explanation {
+    let before = text.get(at.saturating_sub(2)..at).unwrap_or(&[]);
+    let rest = text.get(at..).unwrap_or(&[]);
+    let fix = match (before, rest) {
+        ([letter, b'\''], [next, ..])
+            if letter.is_ascii_alphabetic() && next.is_ascii_alphabetic() => { APOSTROPHE }
+        _ if rest.starts_with(b"[tables]") => "Write [[tables]], with two brackets on each side.",
+        _ => words.fix,
+    };
+    Explanation::new(words.cause, fix)
 }
 
 fn add_place(
@@ -72,5 +90,5 @@ fn add_place(
     message.place_of(name, text, place.as_slice())?;
     add_part_name(message, document, fault)?;
     add_hints(message, document, value, fault)?;
-    message.words(explanation_at(document, value, fault))
+    message.advice(&advice_at(document, value, fault))
 }

@@ -29,6 +29,9 @@ pub fn path_to_fault(document: &Value, fault: &PlanFault) -> ValuePath {
         Level::Column if is_in_values(document, fault) => {
             path_in_table(document, fault.table, 0, column).key("values")
         }
+        Level::Column if is_in_default(document, fault) => {
+            path_in_table(document, fault.table, 0, column).key("default")
+        }
         _ => path_in_table(document, fault.table, fault.rule, column),
     }
 }
@@ -37,6 +40,17 @@ pub fn path_to_fault(document: &Value, fault: &PlanFault) -> ValuePath {
 fn is_in_values(document: &Value, fault: &PlanFault) -> bool {
     matches!(fault.cause, PlanCause::Cell(_))
         && Column::of(document, fault.table, fault.column).is_input
+}
+
+// An output has literals in its priority list and its default. Where it has both, the fault may be in either.
+fn is_in_default(document: &Value, fault: &PlanFault) -> bool {
+    let path = path_in_table(document, fault.table, 0, fault.column);
+    match value_at(document, path.as_slice()) {
+        Some(output) => {
+            matches!(fault.cause, PlanCause::Cell(_)) && output.get("priority").is_none()
+        }
+        None => false,
+    }
 }
 
 fn path_to_field(field: usize) -> ValuePath {

@@ -164,6 +164,20 @@ impl Type {
         }
     }
 
+    /// What to write in place of a value of another type, which may be an array.
+    pub fn fix(self, is_array: bool) -> &'static str {
+        match self {
+            Type::Integer => "Write an integer without quotes: version = 1.",
+            Type::Array => "Write an array: put the items in brackets.",
+            Type::FilledArray => "Write an array of at least one item, in brackets.",
+            Type::Table => "Write a table: the line [roles], and the keys after it.",
+            Type::Text if is_array => {
+                "Write one string; the cell for several texts is '\"A\",\"B\"', for example."
+            }
+            Type::Text => "Put quotes round the value.",
+        }
+    }
+
     /// The type, as a message names it.
     pub fn name(self) -> &'static str {
         match self {

@@ -229,7 +229,7 @@ fn limit_explanation(level: Level) -> Explanation {
     }
 }
 
-/// The explanation of a cell or a literal that cannot be read. Its fix is a general one; `cell_hints.rt` has those for particular mistakes.
+/// The explanation of a cell or a literal that cannot be read. Its fix is a general one; `cell_rows.rt` has those for particular mistakes.
 pub fn cell_explanation(cause: CellCause) -> Explanation {
     match cause {
         CellCause::Token => Explanation::new(

@@ -51,6 +51,6 @@ fn argument_message(
         ArgumentFault::NoEquals => explain_argument(alloc, argument, argument_without_equals()),
         ArgumentFault::UnknownName => explain_argument(alloc, argument, argument_of_unknown_name()),
         ArgumentFault::RepeatedName => explain_argument(alloc, argument, argument_given_twice()),
-        ArgumentFault::Literal(cell) => explain_literal(alloc, argument, cell),
+        ArgumentFault::Literal(cell) => explain_literal(alloc, about.plan, argument, cell),
     }
 }
