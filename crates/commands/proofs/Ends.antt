@@ -1,8 +1,10 @@
 -- The exit status of a command from the library's result, by the lemmas of `value_command`.
-use Rattle.std.proofs.Common.{◌≡◌, ◌≢◌, ℕ, List, Option, Result, OnErr, OnOk, refl}
+use Rattle.std.proofs.Common.{◌≡◌, ◌≢◌, ◌⊎◌, ℕ, List, Option, Result, OnErr, OnOk, inl, inr, refl}
 use Rattle.std.specs.Io.KnownBytes.{Keeps}
 use Rattle.adjudicate.specs.declared.stop.Stop.{Stop}
 use Rattle.adjudicate.specs.declared.stop.Stop.TheVariants.{Value}
+use Rattle.adjudicate.specs.RunStop.{IsRunReason}
+use Rattle.adjudicate.specs.RunText.{RunTexts}
 use Rattle.adjudicate.specs.Stop.{status_of}
 use Rattle.evaluation.specs.declared.stop.ValueStop.TheVariants.{NoMemory}
 use Rattle.evaluation.specs.Stop.{WritesText}
@@ -35,3 +37,12 @@ put_is_text = value.put_is_text
 -- a failure of the system can end any command
 pub resource_refused : (IsReason : Stop → Type 0) → IsReason (Value NoMemory) → (status : ExitStatus) → status ≡ Resource → IsStatusOfRefusal IsReason status
 resource_refused IsReason reason = value.resource_refused status_of IsReason (Value NoMemory) refl reason
+
+-- a failure of the system can end a run
+pub refused_by_system : (texts : RunTexts) (workers : ℕ) (status : ExitStatus) → status ≡ Resource → IsStatusOfRefusal (IsRunReason texts workers) status
+refused_by_system texts workers status is = resource_refused (IsRunReason texts workers) tt status is
+
+-- so can a failure that occurs when the closing balances are written
+pub closing_refused : (texts : RunTexts) (workers : ℕ) (status : ExitStatus) → (status ≡ Done) ⊎ (status ≡ Resource) → status ≢ Done → IsStatusOfRefusal (IsRunReason texts workers) status
+closing_refused texts workers status (inl done) refused = absurd (refused done)
+closing_refused texts workers status (inr is) refused = refused_by_system texts workers status is

@@ -1,6 +1,6 @@
 //! The command `run`: reads the options and the files, and writes the remittance.
 
-ghost use Rattle.std.specs.Prelude.{◌≡◌, ◌≢◌, IfErr, IfOk, map, option_map};
+ghost use Rattle.std.specs.Prelude.{◌≡◌, ◌≢◌, ◌⊎◌, IfErr, IfOk, map, option_map};
 ghost use Rattle.console.specs.declared.exit_status.ExitStatus.TheVariants.{Done, Refused, Resource};
 ghost use Rattle.std.specs.Io.KnownBytes.{Keeps};
 ghost use Rattle.claim_gate.specs.Terms.{text_in, texts_of as texts_after};
@@ -16,11 +16,14 @@ use crate::explaining::{AboutFiles, explain_refusal};
 use crate::strict::refuse_unused;
 use crate::summary::summary_of;
 use crate::words::{cutoff_of, is_strict, order_of, workers_of};
-use adjudicate::{Counting, FILE_LIMIT_BYTES, Order, RunInput, do_counted_run};
+use adjudicate::{Counting, FILE_LIMIT_BYTES, Order, RunInput, ValueStop, do_counted_run};
 use clap::ArgMatches;
-use console::names::{BALANCES, FILE, SUMMARY};
-use console::{AtomicTarget, ExitStatus, Heartbeat, Sources, explains, input_once, no_memory};
-use fixpoint::Out;
+use console::names::{BALANCES, CLOSING, FILE, SUMMARY};
+use console::{
+    AtomicFile, AtomicTarget, ExitStatus, Heartbeat, Sources, closing_apart, explains, input_once,
+    no_memory,
+};
+use fixpoint::{Out, put_all};
 use std::alloc::{AllocError, Global};
 use std::io;
 use std::rt::Files;
@@ -149,8 +152,7 @@ where
     run_anywhere(rt, &about, input, order_of(matches), has_summary)
 }
 
-/// Runs into the file of `--output` or to standard output, and prints the counts of the records if
-/// they are requested.
+/// Runs, and then writes the closing balances to the file of `--closing` if there is one.
 fn run_anywhere<R>(
     rt: &R,
     about: &AboutFiles,
@@ -169,11 +171,100 @@ where
     } else {
         Counting::nothing()
     };
-    let status = run_to_output(rt, about, input, order, &mut counting);
+    match closing_of(rt, about) {
+        Ok(Some(mut place)) => {
+            counting.request_closing();
+            match run_and_report(rt, about, input, order, &mut counting) {
+                ExitStatus::Done => put_closing(rt, about, &mut place, &counting),
+                status => status,
+            }
+        }
+        Ok(None) => run_and_report(rt, about, input, order, &mut counting),
+        Err(status) => status,
+    }
+}
+
+/// Runs into the file of `--output` or to standard output, and prints the counts of the records if
+/// they are requested.
+fn run_and_report<R>(
+    rt: &R,
+    about: &AboutFiles,
+    input: RunInput,
+    order: Order,
+    counting: &mut Counting,
+) -> ExitStatus
+where
+    R: Files + Print + Eprint + AllocGlobal + Threads + Wait + Sync,
+    ensures done { result ≡ Done → HasText (IsRemittanceIn order (run_texts input.entry)) }
+    ensures refused { result ≢ Done
+        → IsStatusOfRefusal (IsRunReason (run_texts input.entry) input.entry.workers) result }
+{
+    let status = run_to_output(rt, about, input, order, counting);
     if status == ExitStatus::Done {
-        report_counts(rt, &counting);
+        report_counts(rt, counting);
     }
     status
+}
+
+// The file that the command line names for the closing balances, if it names one. If nothing can be
+// written there, an error line is printed, and its status is returned.
+fn closing_of<'a, R: Files + Eprint + AllocGlobal>(
+    rt: &'a R,
+    about: &AboutFiles,
+) -> Result<Option<AtomicFile<'a, R>>, ExitStatus>
+    ensures { IfErr result (λ status. status ≡ Resource) }
+{
+    let Some(path) = about.plan.words.get_str(CLOSING) else {
+        return Ok(None);
+    };
+    match AtomicFile::new(rt, path) {
+        Ok(place) => Ok(Some(place)),
+        Err(fault) => Err(report_unwritable(rt, &about_without_explanation(about), &fault)),
+    }
+}
+
+// Puts the closing balances into a place, which then has the whole text, or what it had before.
+fn put_closing<R: Eprint + AllocGlobal, P: AtomicTarget>(
+    rt: &R,
+    about: &AboutFiles,
+    place: &mut P,
+    counting: &Counting,
+) -> ExitStatus
+    ensures { (result ≡ Done) ⊎ (result ≡ Resource) }
+{
+    let Some(closing) = counting.closing() else {
+        return no_memory(rt);
+    };
+    let text = match place.begin() {
+        Ok(text) => text,
+        Err(fault) => return report_unwritable(rt, &about_without_explanation(about), &fault),
+    };
+    let mut out = Out::new(text);
+    let answer = match put_all(closing, &mut out) {
+        Ok(()) => Ok(()),
+        Err(cut) => Err(ValueStop::Write {
+            written: cut.written,
+        }),
+    };
+    match commit_output(
+        rt,
+        &about_without_explanation(about),
+        place,
+        out.into_inner(),
+        &answer,
+    ) {
+        ExitStatus::Done => ExitStatus::Done,
+        _ => ExitStatus::Resource,
+    }
+}
+
+// An explanation would name the file of `--output`.
+fn about_without_explanation<'a, 'w>(about: &AboutFiles<'a, 'w>) -> About<'a, 'w> {
+    About {
+        explains: false,
+        words: about.plan.words,
+        plan: about.plan.plan,
+    }
 }
 
 #[tactic(auto, using(crate::proofs::Ends::put_is_text))]
@@ -277,6 +368,7 @@ pub fn texts_of<R: Eprint + AllocGlobal, S: Sources>(
     ensures failed { IfErr result (IsUnreadStatus matches.now) }
 {
     input_once(rt, matches)?;
+    closing_apart(rt, matches)?;
     let plan = plan_of(rt, sources, matches, explains)?;
     if is_strict(matches) {
         refuse_unused(rt, plan.as_slice())?;

@@ -6,8 +6,8 @@ ghost use Rattle.clap.specs.declared.builder.value_parser.ValueParser.TheVariant
 ghost use Rattle.console.specs.Limits.{TakesWords, cutoff_limit};
 
 use crate::names::{
-    ASSIGNMENT, BALANCES, BY_FILES, BY_SERVICE, CUTOFF, FILE, ORDER, OUTPUT, PLAN, REMITTANCE,
-    WORKERS,
+    ASSIGNMENT, BALANCES, BY_FILES, BY_SERVICE, CLOSING, CUTOFF, FILE, ORDER, OUTPUT, PLAN,
+    REMITTANCE, WORKERS,
 };
 use clap::builder::ValueParser;
 use clap::{Arg, ArgAction};
@@ -49,6 +49,14 @@ pub fn balances_argument<'a>(alloc: Global) -> Arg<'a> {
     Arg::new(alloc, BALANCES)
         .long("balances")
         .help("Opening balances of the members' accumulators, CSV")
+}
+
+/// The file for the closing balances, which can be those that the next run opens with.
+pub fn closing_argument<'a>(alloc: Global) -> Arg<'a> {
+    Arg::new(alloc, CLOSING)
+        .long("closing")
+        .value_name("FILE")
+        .help("Write the balances after the last claim to FILE atomically, CSV")
 }
 
 /// The greatest number of claims that a run accepts, from 0 to `CUTOFF_LIMIT`.

@@ -5,8 +5,9 @@ ghost use Rattle.clap.specs.Words.{AddsSubcommand, subcommand_names};
 ghost use Rattle.clap.specs.declared.builder.command.Command.TheViews.{out-Command as fields_of};
 
 use crate::arguments::{
-    assignment_argument, balances_argument, cutoff_argument, files_argument, flag_argument,
-    order_argument, output_argument, plan_argument, remittance_argument, workers_argument,
+    assignment_argument, balances_argument, closing_argument, cutoff_argument, files_argument,
+    flag_argument, order_argument, output_argument, plan_argument, remittance_argument,
+    workers_argument,
 };
 use crate::names::{AUDIT, CHECK, ERRORS_ONLY, EXPLAIN, RUN, STRICT, SUMMARY, VALUE};
 use crate::texts::{audit_example, check_example, run_example, statuses, value_example};
@@ -96,6 +97,7 @@ fn run_command<'a>(alloc: Global, workers_limit: usize) -> Result<Command<'a>, A
     let arguments = vec![in alloc;
         plan_argument(alloc).long("plan"),
         balances_argument(alloc),
+        closing_argument(alloc),
         cutoff_argument(alloc),
         order_argument(alloc, order),
         workers_argument(alloc, workers_limit as u64),

@@ -30,4 +30,4 @@ pub use files::{ReadFault, read_source, read_text};
 pub use heartbeat::Heartbeat;
 pub use sources::{FileSource, FileSources, Sources};
 pub use stack::grow_stack;
-pub use words::{explains, input_once, program_arguments};
+pub use words::{closing_apart, explains, input_once, program_arguments};

@@ -21,6 +21,9 @@ pub const ASSIGNMENT: &str = "NAME=LITERAL";
 /// The file of opening balances.
 pub const BALANCES: &str = "BALANCES";
 
+/// The file for the closing balances.
+pub const CLOSING: &str = "CLOSING";
+
 /// The greatest number of claims that a run accepts.
 pub const CUTOFF: &str = "CUTOFF";
 
