@@ -9,9 +9,7 @@ mod limits;
 mod table;
 
 use crate::ending::{expects, fail};
-use feel_tests::{
-    CellCause, CellFault, Kind, PlainFault, Value, read_cell, read_plain, read_value,
-};
+use feel_tests::{CellCause, CellFault, Kind, Value, read_cell, read_plain, read_value};
 use std::alloc::Global;
 use std::process::Abort;
 
@@ -26,10 +24,6 @@ fn fault_of(alloc: Global, kind: Kind, text: &str) -> Option<CellFault> {
         Some(fault) if fault.cause == CellCause::OutOfMemory => reported_of(alloc, kind, text),
         fault => fault,
     }
-}
-
-fn field_fault_of(alloc: Global, kind: Kind, field: &str) -> Option<PlainFault> {
-    read_plain(alloc, kind, field).err()
 }
 
 // Reads a literal, even if one allocation is refused.

@@ -2,7 +2,7 @@
 //! does, and it makes one write for each piece.
 use crate::ending::expects;
 use fixpoint::{
-    Failed, Fixed, MAX_UNITS, NumFault, ShortWrite, money_text_denotes, products_are_rounded,
+    Failed, Fixed, NumFault, ShortWrite, money_text_denotes, products_are_rounded,
     shortest_text_denotes, text_denotes_at_most_one,
 };
 use std::alloc::Global;
@@ -47,6 +47,7 @@ fn reads_and_writes_numbers(rt: HostRuntime) {
     reads(&rt, "10.0500", 100_500, "10.05");
     text_denotes_at_most_one();
     shortest_text_denotes();
+    money_text_denotes();
 }
 
 fn refuses(rt: &impl Abort, text: &str, fault: NumFault) {
@@ -66,17 +67,6 @@ fn refuses_texts(rt: HostRuntime) {
     refuses(&rt, "+1", NumFault::NotNumber);
     refuses(&rt, "1.2.3", NumFault::NotNumber);
     refuses(&rt, " 1", NumFault::NotNumber);
-}
-
-#[test]
-fn orders_numbers(rt: HostRuntime) {
-    let least = Fixed::from_units(-MAX_UNITS);
-    let greatest = Fixed::from_units(MAX_UNITS);
-    expects(&rt, least < greatest, "the least before the greatest");
-    let after = Fixed::from_units(MAX_UNITS + 1);
-    expects(&rt, after.is_none(), "none after");
-    let before = Fixed::from_units(-MAX_UNITS - 1);
-    expects(&rt, before.is_none(), "none before");
 }
 
 fn rounds(rt: &impl Abort, one: &str, rate: &str, cents: &str) {
@@ -100,81 +90,6 @@ fn rounds_products_to_cents(rt: HostRuntime) {
     leaves_the_range(&rt, "99999999999.9999", "99999999999.9999");
     leaves_the_range(&rt, "99999999999.9999", "1");
     products_are_rounded();
-}
-
-#[test]
-fn adds_and_compares(rt: HostRuntime) {
-    let greatest = number(&rt, "99999999999.9999");
-    let least = number(&rt, "-99999999999.9999");
-    let smallest_step = number(&rt, "0.0001");
-    let none = has_no_sum(greatest, smallest_step) && has_no_difference(least, smallest_step);
-    expects(&rt, none, "no sum and no difference");
-    let zero = number(&rt, "0");
-    expects(&rt, greatest.add(least) == Some(zero), "the sum");
-    cancels(&rt, smallest_step);
-    expects(
-        &rt,
-        are_ordered(least, greatest),
-        "the least and the greatest",
-    );
-}
-
-fn has_no_sum(one: Fixed, other: Fixed) -> bool {
-    one.add(other).is_none()
-}
-
-fn has_no_difference(one: Fixed, other: Fixed) -> bool {
-    one.sub(other).is_none()
-}
-
-// A number minus itself is 0.
-fn cancels(rt: &impl Abort, one: Fixed) {
-    let zero = number(rt, "-0");
-    expects(rt, one.sub(one) == Some(zero), "the difference");
-}
-
-fn are_ordered(least: Fixed, greatest: Fixed) -> bool {
-    least.min(greatest) == least && least.max(greatest) == greatest
-}
-
-fn reports(rt: &impl Abort, text: &str, is_cents: bool, is_money: bool) {
-    let number = number(rt, text);
-    expects(rt, number.is_cents() == is_cents, text);
-    expects(rt, number.is_money() == is_money, text);
-}
-
-fn reports_rate(rt: &impl Abort, text: &str, is_rate: bool) {
-    expects(rt, number(rt, text).is_rate() == is_rate, text);
-}
-
-#[test]
-fn reports_money_and_rates(rt: HostRuntime) {
-    reports(&rt, "0.01", true, true);
-    reports(&rt, "-0", true, true);
-    reports(&rt, "-0.01", true, false);
-    reports(&rt, "0.001", false, false);
-    reports_rate(&rt, "-0.0001", false);
-    reports_rate(&rt, "0", true);
-    reports_rate(&rt, "1", true);
-    reports_rate(&rt, "1.0001", false);
-}
-
-fn has_money_text(rt: &impl Abort, text: &str, money: &str) {
-    let number = number(rt, text);
-    assert!(rt; number.is_cents(), "{text}");
-    let mut buffer = [0; 24];
-    let length = number.write_money(&mut buffer);
-    let same = &buffer[..length] == money.as_bytes();
-    expects(rt, same, money);
-}
-
-#[test]
-fn writes_money(rt: HostRuntime) {
-    has_money_text(&rt, "5.02", "5.02");
-    has_money_text(&rt, "-.5", "-0.50");
-    has_money_text(&rt, "100", "100.00");
-    has_money_text(&rt, "99999999999.99", "99999999999.99");
-    money_text_denotes();
 }
 
 fn says(rt: &impl Abort, alloc: Global, shown: &impl Display, message: &str) {

@@ -1,5 +1,5 @@
 -- Jobs in progress.
-use Rattle.std.proofs.Common.{◌≡◌, false, [], ◌∷◌, ◌++◌, Option, Some, None, Result, Ok, Err, refl, sym, ap, ◌∙◌, subst, eq-eqb}
+use Rattle.std.proofs.Common.{◌≡◌, true, false, [], ◌∷◌, ◌++◌, Option, Some, None, Result, Ok, Err, refl, sym, ap, ◌∙◌, subst, append-nil, eq-eqb}
 use Rattle.std.specs.Prelude.{IfOk, IfSome}
 use Rattle.std.proofs.lemmas.Bool.{both_ways, or_left}
 use Rattle.std.proofs.lemmas.List.Folds.{list_any-append}
@@ -62,10 +62,6 @@ work_taken law old new (Ok NothingReady) went work = tt
 work_taken law old new (Ok (Work job)) went work = at_work law old new job (λ T is. (went T is).2.job) work
 work_taken law old new (Err fault) went work = tt
 
--- the job of an answer of `take` is in progress
-pub its_job : (gate : GateParts) (reply : Result Taken TakeFault) (job : Job) → reply ≡ Ok (Work job) → IfOk reply (IsTaken gate) → IsAtWork gate job
-its_job gate reply job is work = subst (λ r. IfOk r (IsTaken gate)) is work
-
 -- a caller's last job after `take` is in progress
 pub last_at_work : (gate : GateParts) (before last : Option Job) (reply : Result Taken TakeFault)
     → IfSome before (IsAtWork gate) → IfOk reply (IsTaken gate) → IsLastJob reply before last → IfSome last (IsAtWork gate)
@@ -74,3 +70,12 @@ last_at_work gate before last (Ok Over) work taken is = subst (λ (l : Option Jo
 last_at_work gate before last (Ok NothingReady) work taken is = subst (λ (l : Option Job). IfSome l (IsAtWork gate)) (sym is) work
 last_at_work gate before last (Ok (Work job)) work taken is = subst (λ (l : Option Job). IfSome l (IsAtWork gate)) (sym is) taken
 last_at_work gate before last (Err fault) work taken is = subst (λ (l : Option Job). IfSome l (IsAtWork gate)) (sym is) work
+
+-- a stopped gate follows the one that was stopped
+pub stop_leads : (old new : GateParts) → new ≡ record old { stopped = true } → LeadsTo old new
+stop_leads old new is =
+    subst (LeadsTo old) (sym is) (record {
+      terms = refl;
+      journal = record { rest = []; whole = sym (append-nil old.journal) };
+      stop = λ s. λ i. record { terms = old.terms; journal = old.journal; stopped = sym s i };
+    })

@@ -3,4 +3,3 @@ pub mod Filing
 pub mod Jobs
 pub mod Meeting
 pub mod Order
-pub mod Orders

@@ -1,5 +1,5 @@
 -- Definitions for tests only: the progress of reading a provider's file, and the jobs in progress.
-use Rattle.std.specs.Prelude.{◌≡◌, ℕ, true, List, [], ◌∷◌, ◌++◌, length, Option, Some, IfSome, Result, Ok}
+use Rattle.std.specs.Prelude.{◌≡◌, ℕ, true, List, ◌++◌, length, Option, Some, IfSome, Result, Ok}
 use Rattle.settlement.specs.declared.claim.Claim.{Claim}
 use Rattle.intake_csv.specs.Laws.{LieApart}
 use Rattle.intake_csv.specs.Rows.{AreRowsLeft, RowsLeft, claims_among}
@@ -25,10 +25,6 @@ pub record IsReader (T : Terms) (provider : ℕ) (left : RowsLeft) : Type 0 wher
   pub whole : claims_of T provider ≡ front ++ claims_among rows
   pub counted : length front ≡ left.place
   pub apart : LieApart left.layout.columns
-
--- the provider's file has this claim and no other
-abbrev pub IsOnly : Terms → ℕ → Claim → Type 0
-IsOnly T provider claim = claims_of T provider ≡ claim ∷ []
 
 -- the job was taken, and it is the job at its position
 pub record IsAtWork (gate : GateParts) (job : Job) : Type 0 where

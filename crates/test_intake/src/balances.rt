@@ -1,6 +1,6 @@
 //! Tests of files of balances by worked examples. Their faults are shown by the cases of
 //! `tests/program`.
-use crate::claims::{BY_FAMILY, BY_YEAR};
+use crate::claims::BY_FAMILY;
 use crate::ending::expects;
 use dtable::read_plan;
 use intake_csv::{BalanceFault, Balances, read_balances};
@@ -8,58 +8,6 @@ use settlement::Acc;
 use std::alloc::Global;
 use std::process::Abort;
 use tables::Plan;
-
-/// Returns whether the accumulators of a member who is the only one of its family have these
-/// amounts, in ten-thousandths.
-pub(crate) fn has_amounts(acc: Acc, met: i64, oop: i64, paid: i64) -> bool {
-    acc.met.amount().units() == met
-        && acc.oop.amount().units() == oop
-        && acc.paid.amount().units() == paid
-        && acc.fmet == acc.met
-        && acc.foop == acc.oop
-}
-
-/// Balances of several years.
-const OF_YEARS: &[u8] =
-    b"member,year,met,oop,paid\nM1,2024,50.00,10.00,5.00\nM2,9999,1,2,3\nM1,2025,4,0,0\n";
-
-const MEMBERS_BY_YEAR: [(&str, u16, i64, i64, i64); 6] = [
-    ("M1", 2024, 500_000, 100_000, 50_000),
-    ("M1", 2025, 40_000, 0, 0),
-    ("M1", 2026, 0, 0, 0),
-    ("M2", 2024, 0, 0, 0),
-    ("M2", 9999, 10_000, 20_000, 30_000),
-    ("M3", 2024, 0, 0, 0),
-];
-
-#[test]
-fn balances_of_years_or_no_memory(rt: HostRuntime) {
-    if let Ok(plan) = read_plan(rt.alloc(), BY_YEAR) {
-        years_or_no_memory(&rt, rt.alloc(), &plan);
-    }
-}
-
-fn years_or_no_memory(rt: &impl Abort, alloc: Global, plan: &Plan) {
-    match read_balances(alloc, plan, OF_YEARS) {
-        Ok(balances) => have_members_by_year(rt, balances, members_by_year()),
-        Err(fault) => lacks_memory(rt, fault),
-    }
-}
-
-fn members_by_year() -> &'static [(&'static str, u16, i64, i64, i64)] {
-    &MEMBERS_BY_YEAR
-}
-
-fn have_members_by_year(
-    rt: &impl Abort,
-    balances: Balances,
-    members: &[(&str, u16, i64, i64, i64)],
-) {
-    for (member, year, met, oop, paid) in members {
-        let found = has_amounts(balances.of(member, member, *year), *met, *oop, *paid);
-        expects(rt, found, member);
-    }
-}
 
 /// Balances of two families. The columns are not in the order of the documentation, and one more
 /// column has bytes that are no text.
@@ -113,12 +61,14 @@ fn members_by_family() -> &'static [OfFamily] {
 
 fn have_members_by_family(rt: &impl Abort, balances: Balances, members: &[OfFamily]) {
     for (family, member, year, own, sums) in members {
-        let found = has(balances.of(family, member, *year), *own, *sums);
+        let found = has_amounts(balances.of(family, member, *year), *own, *sums);
         expects(rt, found, member);
     }
 }
 
-fn has(acc: Acc, own: (i64, i64, i64), family: (i64, i64)) -> bool {
+/// Returns whether accumulators have these amounts of a member and these sums of its family, in
+/// ten-thousandths.
+pub(crate) fn has_amounts(acc: Acc, own: (i64, i64, i64), family: (i64, i64)) -> bool {
     acc.met.amount().units() == own.0
         && acc.oop.amount().units() == own.1
         && acc.paid.amount().units() == own.2

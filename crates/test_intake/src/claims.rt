@@ -12,9 +12,6 @@ use tables::Plan;
 /// A plan with one field, which is a text.
 const PLAN: &[u8] = b"version = 1\nfields = [{name = \"code\", kind = \"text\"}]\n";
 
-/// A plan with the same field, and with accumulators by benefit year.
-pub(crate) const BY_YEAR: &[u8] = b"version = 2\nfields = [{name = \"code\", kind = \"text\"}]\n";
-
 /// A plan with the same field, and with accumulators by benefit year and for families.
 pub(crate) const BY_FAMILY: &[u8] = b"version = 3\nfields = [{name = \"code\", kind = \"text\"}]\n";
 

@@ -128,12 +128,9 @@ fn come_by_files(rt: &impl Abort, alloc: Global, order: Order) {
     expects(rt, all, "the claims file after file");
 }
 
+// Without an order they come so too.
 #[test]
 fn claims_come_file_after_file(rt: HostRuntime) {
     come_by_files(&rt, rt.alloc(), Order::Files);
-}
-
-#[test]
-fn claims_without_an_order_come_file_after_file(rt: HostRuntime) {
     come_by_files(&rt, rt.alloc(), Order::Any);
 }

@@ -66,11 +66,11 @@ fn claim(rt: &impl Abort, alloc: Global, member: &str) -> Claim {
     }
 }
 
-// Compares the opening accumulators of a member.
+// Compares the opening accumulators of a member who is the only one of its family.
 fn opens(rt: &impl Abort, alloc: Global, terms: &Terms, wanted: (&str, i64, i64, i64)) {
     let (member, met, oop, paid) = wanted;
     let claim = claim(rt, alloc, member);
-    let found = has_amounts(terms.opening(&claim), met, oop, paid);
+    let found = has_amounts(terms.opening(&claim), (met, oop, paid), (met, oop));
     expects(rt, found, member);
 }
 

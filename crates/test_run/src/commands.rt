@@ -1,4 +1,5 @@
-//! The commands over writers that are full after any number of bytes, and with memory refused.
+//! The commands over writers that are full after any number of bytes, over input that is refused, and
+//! with memory refused.
 use crate::testing::{expects, expects_at, says};
 use crate::writers::{Narrow, WhenFull, compare_received, is_filled, narrow_writer};
 use adjudicate::{RunInput, Stop, do_check, do_errors_check, do_run, do_value};
@@ -7,18 +8,18 @@ use std::process::Abort;
 use std::sync::Wait;
 use std::thread::Threads;
 use test_fixtures::{both_files, health_plan, remittance};
-use texts::{crossed_plan, errors, gaps, some_errors, two_gaps, values};
+use texts::{crossed_plan, gaps, member_twice, no_roles, two_gaps, values};
 
 mod texts;
 
-/// A command and its input.
+// A command and its input.
 #[derive(Clone, Copy)]
-pub enum Command<'a> {
+enum Command<'a> {
     /// The value of a plan with two outputs for two arguments.
     Value,
     /// The check of a plan with two gaps.
     Check,
-    /// The check of a plan with gaps and overlaps, for those that are errors.
+    /// The check of that plan for the gaps and overlaps that are errors, as both gaps are.
     CheckErrors,
     /// A run.
     Run(RunInput<'a>),
@@ -32,37 +33,24 @@ fn start<R: Threads + Wait + Sync + AllocGlobal>(
     match command {
         Command::Value => do_value(rt.alloc(), crossed_plan(), &["a=6", "b=1"], out),
         Command::Check => do_check(rt.alloc(), two_gaps(), out),
-        Command::CheckErrors => do_errors_check(rt.alloc(), some_errors(), out),
+        Command::CheckErrors => do_errors_check(rt.alloc(), two_gaps(), out),
         Command::Run(input) => do_run(rt, input, out),
     }
 }
 
-/// Returns whether a writer with room for `limit` bytes receives the whole text, or exactly these
-/// first bytes of it.
-pub fn fills<R: Threads + Wait + Abort + Sync + AllocGlobal>(
+// A writer with room for `limit` bytes receives the whole text, or exactly these first bytes of it.
+fn fills<R: Threads + Wait + Abort + Sync + AllocGlobal>(
     rt: &R,
     command: Command,
     limit: usize,
     width: usize,
     when_full: WhenFull,
     text: &str,
-) -> bool {
+) {
     let mut out = narrow_writer(rt, rt.alloc(), limit, width, when_full);
     let answer = start(rt, command, &mut out);
-    is_filled(answer, out, limit, text.as_bytes())
-}
-
-fn fills_twice<R: Threads + Wait + Abort + Sync + AllocGlobal>(
-    rt: &R,
-    command: Command,
-    limit: usize,
-    width: usize,
-    text: &str,
-) {
-    let fails = fills(rt, command, limit, width, WhenFull::Fails, text);
-    expects_at(rt, fails, limit);
-    let takes_nothing = fills(rt, command, limit, width, WhenFull::TakesNothing, text);
-    expects_at(rt, takes_nothing, limit);
+    let is_so = is_filled(answer, out, limit, text.as_bytes());
+    expects_at(rt, is_so, limit);
 }
 
 // Tries each room up to that for the whole text.
@@ -73,51 +61,30 @@ fn fills_each<R: Threads + Wait + Abort + Sync + AllocGlobal>(
     text: &str,
 ) {
     for limit in 0..=text.len() {
-        fills_twice(rt, command, limit, width, text);
+        fills(rt, command, limit, width, WhenFull::Fails, text);
+        fills(rt, command, limit, width, WhenFull::TakesNothing, text);
     }
 }
 
-#[test]
-fn a_full_writer_has_the_first_bytes_of_a_value(rt: HostRuntime) {
-    fills_each(&rt, Command::Value, 1, values());
-    fills_each(&rt, Command::Value, 3, values());
-    fills_each(&rt, Command::Value, 1_024, values());
-}
-
-#[test]
-fn a_full_writer_has_the_first_bytes_of_a_check(rt: HostRuntime) {
-    fills_each(&rt, Command::Check, 1, gaps());
-    fills_each(&rt, Command::Check, 3, gaps());
-    fills_each(&rt, Command::Check, 1_024, gaps());
-    fills_each(&rt, Command::CheckErrors, 1_024, errors());
-}
-
-/// Returns a run of the health plan by four workers.
-pub fn run_of<'a>(files: &'a [&'a [u8]]) -> Command<'a> {
+// A run of the health plan by four workers, over both files.
+fn run_of_both() -> Command<'static> {
     Command::Run(RunInput {
         plan: health_plan().as_bytes(),
         balances: None,
-        files,
+        files: both_files(),
         cutoff: None,
         workers: 4,
     })
 }
 
 #[test]
-fn a_full_writer_has_the_first_bytes_of_a_remittance(rt: HostRuntime) {
-    fills_each(&rt, run_of(both_files()), 1_024, remittance());
-}
-
-/// Limits of writers, in bytes. Each of them is less than the length of the remittance.
-const LIMITS: &[usize] = &[0, 1, 36, 37, 88, 89, 300, 499];
-
-#[test]
-fn a_slow_writer_has_the_first_bytes_of_a_remittance(rt: HostRuntime) {
-    let run = run_of(both_files());
-    for limit in LIMITS {
-        fills_twice(&rt, run, *limit, 7, remittance());
+fn a_full_writer_has_the_first_bytes(rt: HostRuntime) {
+    for width in [1, 3, 1_024] {
+        fills_each(&rt, Command::Value, width, values());
+        fills_each(&rt, Command::Check, width, gaps());
     }
-    fills_twice(&rt, run, remittance().len(), 7, remittance());
+    fills_each(&rt, Command::CheckErrors, 1_024, gaps());
+    fills_each(&rt, run_of_both(), 7, remittance());
 }
 
 // Returns whether the command has ended with this line and status, and the writer has received
@@ -137,9 +104,9 @@ fn is_stopped(
     says_so && received.is_front && received.count == bytes.len()
 }
 
-/// Requires that the command ends with this line and status, and that a writer with room for
-/// `limit` bytes has then received these bytes.
-pub fn stops<R: Threads + Wait + Abort + Sync + AllocGlobal>(
+// Requires that the command ends with this line and status, and that a writer with room for
+// `limit` bytes has then received these bytes.
+fn stops<R: Threads + Wait + Abort + Sync + AllocGlobal>(
     rt: &R,
     command: Command,
     limit: usize,
@@ -157,8 +124,41 @@ pub fn stops<R: Threads + Wait + Abort + Sync + AllocGlobal>(
 fn a_write_fault_has_its_line(rt: HostRuntime) {
     stops(&rt, Command::Check, 5, "gap t", "write fault at 5\n", 3);
     let front = "provider,record,claim,member,status,r";
-    let run = run_of(both_files());
-    stops(&rt, run, 37, front, "write fault at 37\n", 3);
+    stops(&rt, run_of_both(), 37, front, "write fault at 37\n", 3);
+}
+
+// The run ends with this line and status 1, and writes nothing.
+fn refuses<R: Threads + Wait + Abort + Sync + AllocGlobal>(
+    rt: &R,
+    plan: &str,
+    balances: Option<&[u8]>,
+    files: &[&[u8]],
+    workers: usize,
+    line: &str,
+) {
+    let run = Command::Run(RunInput {
+        plan: plan.as_bytes(),
+        balances,
+        files,
+        cutoff: None,
+        workers,
+    });
+    stops(rt, run, 64, "", line, 1);
+}
+
+// Each line has one fault less than the line before it.
+#[test]
+fn the_first_fault_of_a_run_is_reported(rt: HostRuntime) {
+    let (plan, twice, files) = (health_plan(), Some(member_twice()), both_files());
+    let no_version = "plan fault 2 table 0 rule 0 column 0\n";
+    refuses(&rt, "fields = []\n", twice, &[], 0, no_version);
+    refuses(&rt, no_roles(), twice, &[], 0, "terms fault 1\n");
+    refuses(&rt, plan, twice, &[], 0, "terms fault 2\n");
+    let repeated = "terms fault 4 record 2 cause 8 column 1\n";
+    refuses(&rt, plan, twice, files, 0, repeated);
+    for workers in [0, 65, usize::MAX] {
+        refuses(&rt, plan, None, files, workers, "run fault 1\n");
+    }
 }
 
 // A value and a check are made before their first byte is written. If memory runs out in a run, some
@@ -199,16 +199,12 @@ fn writes_or_lacks_memory<R: Threads + Wait + Abort + Sync + AllocGlobal>(
 }
 
 #[test]
-fn a_value_or_no_memory(rt: HostRuntime) {
+fn a_value_and_a_check_or_no_memory(rt: HostRuntime) {
     writes_or_lacks_memory(&rt, Command::Value, values());
-}
-
-#[test]
-fn a_check_or_no_memory(rt: HostRuntime) {
     writes_or_lacks_memory(&rt, Command::Check, gaps());
 }
 
 #[test]
 fn a_run_or_no_memory(rt: HostRuntime) {
-    writes_or_lacks_memory(&rt, run_of(both_files()), remittance());
+    writes_or_lacks_memory(&rt, run_of_both(), remittance());
 }

@@ -13,8 +13,6 @@ mod fault_lines;
 #[cfg(test)]
 mod reports;
 #[cfg(test)]
-mod runs;
-#[cfg(test)]
 mod testing;
 #[cfg(test)]
 mod threads;

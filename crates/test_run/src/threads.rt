@@ -1,12 +1,12 @@
 //! Runs by several threads, on gates that other callers use too.
 ghost use Rattle.std.specs.Prelude.{◌≡◌};
 
-use crate::reports::{fills_each, is_report};
+use crate::reports::is_report;
 use crate::testing::{expects, fail, plan_of, terms_of};
 use claim_gate::{Batch, Terms};
 use crew::{RunFault, run};
 use journal::Event;
-use met::{Case, OtherCaller, calm_run, meets, meets_spinning};
+use met::{Case, OtherCaller, calm_run, meets};
 use std::alloc::Global;
 use std::fmt::Write;
 use std::process::Abort;
@@ -38,89 +38,72 @@ fn is_resource_fault(fault: RunFault) -> bool {
     number == 2 || number == 3
 }
 
-// A run that is refused memory or a thread reports it. It is tried once more where this may happen.
+// A run that is refused memory or a thread reports it, and is tried once more.
 fn batch_if_refused<'t, R: Threads + Wait + Abort + Sync>(
     rt: &R,
     alloc: Global,
     terms: &'t Terms,
     workers: usize,
-    may_be_refused: bool,
 ) -> Batch<'t>
     ensures { result.terms ≡ terms.now }
 {
     match run(rt, alloc, terms, workers) {
         Ok(batch) => batch,
         Err(fault) => {
-            let is_refusal = may_be_refused && is_resource_fault(fault);
-            expects(rt, is_refusal, "a run, or a lack of memory");
+            expects(rt, is_resource_fault(fault), "a run, or a lack of memory");
             batch_of(rt, alloc, terms, workers)
         }
     }
 }
 
-fn count_ends(journal: &[Event], wanted: usize) -> usize {
-    let mut count = 0usize;
-    for event in journal {
-        if let Event::End { provider } = event
-            && *provider == wanted
-        {
-            count = count.saturating_add(1);
-        }
-    }
-    count
-}
-
-// Returns whether a journal has one end of each provider, the close, and no other event.
+// Returns whether a finished run's journal has no claims: it has this number of ends, and the close.
 fn is_ends_and_close(journal: &[Event], providers: usize) -> bool {
-    for provider in 0..providers {
-        if count_ends(journal, provider.saturating_add(1)) != 1 {
-            return false;
+    let mut ends = 0usize;
+    for event in journal {
+        if let Event::End { .. } = event {
+            ends = ends.saturating_add(1);
         }
     }
-    journal.len() == providers.saturating_add(1) && matches!(journal.last(), Some(Event::Close))
+    ends == providers && journal.len() == providers.saturating_add(1)
 }
 
-// What a test checks of a finished run.
-#[derive(Clone, Copy)]
-enum Checks {
-    /// The journal has one end of each provider and the close, as it has without claims.
-    Ends,
-    /// The report is this text, into writers that are full.
-    Cut(&'static str),
-    /// The journal has this number of events, and the report is this text, though memory is refused.
-    ThoughRefused(usize, &'static str),
-}
-
-fn check_run<R: Threads + Wait + Abort + Sync>(
+// The run of files without claims.
+fn check_ends<R: Threads + Wait + Abort + Sync>(
     rt: &R,
     alloc: Global,
     terms: &Terms,
     workers: usize,
-    checks: Checks,
 ) {
-    let may_be_refused = matches!(checks, Checks::ThoughRefused(_, _));
-    let batch = batch_if_refused(rt, alloc, terms, workers, may_be_refused);
-    match checks {
-        Checks::Ends => {
-            let ends = is_ends_and_close(batch.journal(), terms.files().len());
-            expects(rt, ends, "the ends and the close");
-        }
-        Checks::Cut(text) => fills_each(rt, alloc, terms, &batch, text),
-        Checks::ThoughRefused(events, text) => {
-            expects(rt, batch.journal().len() == events, "these events");
-            is_report(rt, alloc, terms, &batch, text);
-        }
-    }
+    let batch = batch_of(rt, alloc, terms, workers);
+    let ends = is_ends_and_close(batch.journal(), terms.files().len());
+    expects(rt, ends, "the ends and the close");
+    drop(batch);
+}
+
+// A run by two workers and its report, which may be refused memory. The journal has this number of
+// events.
+fn check_report<R: Threads + Wait + Abort + Sync>(
+    rt: &R,
+    alloc: Global,
+    terms: &Terms,
+    events: usize,
+    report: &str,
+) {
+    let batch = batch_if_refused(rt, alloc, terms, 2);
+    expects(rt, batch.journal().len() == events, "these events");
+    is_report(rt, alloc, terms, &batch, report);
     drop(batch);
 }
 
 // The runs that a test checks.
 #[derive(Clone, Copy)]
 enum Runs {
-    /// A run by this number of workers.
-    By(usize, Checks),
+    /// A run of files without claims, by this number of workers.
+    WithoutClaims(usize),
+    /// A run that may be refused memory. Its journal has this number of events, and its report is
+    /// this text.
+    ThoughRefused(usize, &'static str),
     Watched(Case),
-    WatchedSpinning(Case),
 }
 
 // Only one function owns the plan of all tests, and only one owns the terms, because a function that
@@ -147,9 +130,9 @@ fn check_under<R: Threads + Wait + Abort + Sync>(
 ) {
     let terms = terms_of(rt, alloc, plan, files, cutoff);
     match runs {
-        Runs::By(workers, checks) => check_run(rt, alloc, &terms, workers, checks),
+        Runs::WithoutClaims(workers) => check_ends(rt, alloc, &terms, workers),
+        Runs::ThoughRefused(events, report) => check_report(rt, alloc, &terms, events, report),
         Runs::Watched(case) => meets(rt, alloc, &terms, &case),
-        Runs::WatchedSpinning(case) => meets_spinning(rt, alloc, &terms, &case),
     }
     drop(terms);
 }
@@ -161,30 +144,16 @@ fn check_both<R: Threads + Wait + Abort + Sync>(rt: &R, alloc: Global, runs: Run
 
 #[test]
 fn a_run_over_a_header_alone(rt: HostRuntime) {
-    let ends = Runs::By(2, Checks::Ends);
-    check(&rt, rt.alloc(), &[header()], None, ends);
-    let ends = Runs::By(4, Checks::Ends);
-    check(&rt, rt.alloc(), &[header(); 64], None, ends);
-}
-
-#[test]
-fn a_report_is_cut_at_each_length(rt: HostRuntime) {
-    let whole = Checks::Cut(remittance());
-    check_both(&rt, rt.alloc(), Runs::By(2, whole));
-    let late = Runs::By(2, Checks::Cut(late_remittance()));
-    check(&rt, rt.alloc(), both_files(), Some(0), late);
+    check(&rt, rt.alloc(), &[header()], None, Runs::WithoutClaims(2));
+    let files = [header(); 64];
+    check(&rt, rt.alloc(), &files, None, Runs::WithoutClaims(4));
 }
 
 #[test]
 fn a_report_of_a_run_though_memory_is_refused(rt: HostRuntime) {
-    let whole = Checks::ThoughRefused(21, remittance());
-    check_both(&rt, rt.alloc(), Runs::By(2, whole));
-}
-
-#[test]
-fn a_report_of_late_claims_though_memory_is_refused(rt: HostRuntime) {
-    let late = Checks::ThoughRefused(1, late_remittance());
-    let late = Runs::By(2, late);
+    let whole = Runs::ThoughRefused(21, remittance());
+    check_both(&rt, rt.alloc(), whole);
+    let late = Runs::ThoughRefused(1, late_remittance());
     check(&rt, rt.alloc(), both_files(), Some(0), late);
 }
 
@@ -197,38 +166,30 @@ fn intakes_go_on_where_others_are(rt: HostRuntime) {
     check_both(&rt, rt.alloc(), Runs::Watched(case));
 }
 
-// A run in which as many `take`s and `offer`s as are given meet.
-fn crowds_of(workers: usize, takes: u64, offers: u64) -> Runs {
+// A run in which this number of `take`s meet, or of `offer`s of these providers.
+fn crowds_of(workers: usize, takes: u64, offers: u64, providers: u64) -> Runs {
     let mut case = calm_run(workers, remittance());
     case.watch.takes = takes;
     case.watch.offers = offers;
     case.wanted.takes = takes;
     case.wanted.offers = offers;
+    case.wanted.providers = providers;
     Runs::Watched(case)
 }
 
-// A run has its workers, its caller, and one intake thread for each of the two files.
-#[test]
-fn a_run_has_an_intake_a_file_and_its_workers(rt: HostRuntime) {
-    check_both(&rt, rt.alloc(), crowds_of(1, 2, 2));
-    check_both(&rt, rt.alloc(), crowds_of(4, 5, 2));
-    check_both(&rt, rt.alloc(), crowds_of(64, 65, 2));
-}
-
-// A `take` of the caller meets one of the only worker.
+// A `take` of the caller meets one of each worker.
 #[test]
 fn two_workers_meet(rt: HostRuntime) {
-    check_both(&rt, rt.alloc(), crowds_of(1, 2, 0));
+    check_both(&rt, rt.alloc(), crowds_of(1, 2, 0, 0));
+    check_both(&rt, rt.alloc(), crowds_of(4, 5, 0, 0));
+    check_both(&rt, rt.alloc(), crowds_of(64, 65, 0, 0));
 }
 
-// An `offer` of the first provider's intake thread meets one of the second's.
+// A run has one intake thread for each of the two files. An `offer` of the first provider's meets one
+// of the second's.
 #[test]
 fn two_intakes_meet(rt: HostRuntime) {
-    let mut case = calm_run(1, remittance());
-    case.watch.offers = 2;
-    case.wanted.offers = 2;
-    case.wanted.providers = 1 + 2;
-    check_both(&rt, rt.alloc(), Runs::Watched(case));
+    check_both(&rt, rt.alloc(), crowds_of(1, 0, 2, 1 + 2));
 }
 
 // The intake threads are refused memory twice and stop the gate, but only after the caller and both
@@ -256,7 +217,7 @@ fn a_run_on_a_stopped_gate(rt: HostRuntime) {
     let mut case = calm_run(2, "");
     case.other = OtherCaller::StopsBefore;
     case.wanted.fault = 5;
-    check_both(&rt, rt.alloc(), Runs::WatchedSpinning(case));
+    check_both(&rt, rt.alloc(), Runs::Watched(case));
 }
 
 #[test]
@@ -296,18 +257,15 @@ fn a_call_refused_memory_is_made_once_more(rt: HostRuntime) {
     check_both(&rt, rt.alloc(), refusals_of(1, 1, 1, 1, 0));
 }
 
-fn check_first<R: Threads + Wait + Abort + Sync>(rt: &R, alloc: Global, runs: Runs) {
-    check(rt, alloc, &[first_file()], None, runs);
-}
-
 // One file has one intake thread, which makes both refused calls. Several workers share the other
 // calls, so all of them are refused.
 #[test]
 fn a_call_refused_memory_twice_ends_the_run(rt: HostRuntime) {
-    check_first(&rt, rt.alloc(), refusals_of(2, 0, 0, 0, 2));
-    check_first(&rt, rt.alloc(), refusals_of(0, 2, 0, 0, 2));
-    check_first(&rt, rt.alloc(), refusals_of(0, 0, u64::MAX, 0, 2));
-    check_first(&rt, rt.alloc(), refusals_of(0, 0, 0, u64::MAX, 2));
+    let (files, all) = ([first_file()], u64::MAX);
+    check(&rt, rt.alloc(), &files, None, refusals_of(2, 0, 0, 0, 2));
+    check(&rt, rt.alloc(), &files, None, refusals_of(0, 2, 0, 0, 2));
+    check(&rt, rt.alloc(), &files, None, refusals_of(0, 0, all, 0, 2));
+    check(&rt, rt.alloc(), &files, None, refusals_of(0, 0, 0, all, 2));
 }
 
 /// The number of claims: one more than a worker takes in one turn, and twice as many as an intake

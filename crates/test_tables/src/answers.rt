@@ -3,9 +3,9 @@
 //!
 //! A test calls `drop` for each plan, input or answer that it owns. This is one call for the
 //! prover, whereas the end of a scope drops each of their parts.
-use crate::ending::{expects, fail};
+use crate::ending::expects;
 use dtable::{PlanFault, read_plan};
-use feel_tests::{Kind, TEXT_LIMIT_BYTES, Text, Value, read_value};
+use feel_tests::{Value, read_value};
 use std::alloc::{AllocError, Global};
 use std::process::Abort;
 use tables::{Answer, Env, Fault, Inputs, Plan, Valuer};
@@ -36,19 +36,6 @@ pub fn give(rt: &impl Abort, alloc: Global, inputs: &mut Inputs, place: usize, l
     inputs.set(place, value);
 }
 
-/// Sets the name at the index `place` to a text, which replaces an earlier text.
-pub fn give_text(rt: &impl Abort, alloc: Global, inputs: &mut Inputs, place: usize, text: &str) {
-    assert!(rt; text.len() <= TEXT_LIMIT_BYTES);
-    let text = Text::new(alloc, text).expect(rt, "memory for a text");
-    match inputs.kind_at(place) {
-        Some(Kind::Text) => {
-            let given = inputs.set_text(alloc, place, &text);
-            expects(rt, given.is_ok(), "memory for a text");
-        }
-        _ => fail(rt, "a name for a text"),
-    }
-}
-
 /// Evaluates the plan's tables for these inputs.
 pub fn value_of<'a>(rt: &impl Abort, alloc: Global, plan: &'a Plan, inputs: &Inputs) -> Env<'a> {
     assert!(rt; plan.ready(inputs));
@@ -77,44 +64,6 @@ fn write_shown(text: &mut Vec<u8>, values: &Env, outputs: &[&str]) -> Result<(),
         write_line(text, values.get(output))?;
     }
     Ok(())
-}
-
-/// Returns the answers of these outputs, one line for each. Each output is found by its place in
-/// the plan.
-pub fn shown_by_place(
-    rt: &impl Abort,
-    alloc: Global,
-    plan: &Plan,
-    values: &Env,
-    outputs: &[&str],
-) -> Vec<u8> {
-    let mut text = Vec::new(alloc);
-    for output in outputs {
-        let place = plan.output_place(output).expect(rt, "an output");
-        let written = write_line(&mut text, values.at(place));
-        expects(rt, written.is_ok(), "memory for a text");
-    }
-    text
-}
-
-/// Returns these answers of a table, one line for each.
-pub fn listed_text(rt: &impl Abort, alloc: Global, answers: &[Answer]) -> Vec<u8> {
-    let mut text = Vec::new(alloc);
-    for answer in answers {
-        let written = write_line(&mut text, Some(answer));
-        expects(rt, written.is_ok(), "memory for a text");
-    }
-    text
-}
-
-/// Returns the literal of a value, or an empty text if there is no value.
-pub fn literal_of(rt: &impl Abort, alloc: Global, value: Option<&Value>) -> Vec<u8> {
-    let mut text = Vec::new(alloc);
-    if let Some(value) = value {
-        let written = value.write_text(&mut text);
-        expects(rt, written.is_ok(), "memory for a text");
-    }
-    text
 }
 
 pub fn is_text(text: Vec<u8>, wanted: &str) -> bool {

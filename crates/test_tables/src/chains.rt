@@ -1,9 +1,6 @@
 //! Whole plans, from their texts to their values: chains of tables, lists, and memory that runs
 //! out.
-use crate::answers::{
-    give, give_text, inputs_of, is_text, literal_of, plan_of, printed_text, shown_by_place,
-    value_of,
-};
+use crate::answers::{give, inputs_of, is_text, plan_of, printed_text, value_of};
 use crate::ending::expects;
 use crate::plans::chain_plan;
 use dtable::text_spells_at_most_one_plan;
@@ -46,8 +43,6 @@ fn is_answered(rt: &impl Abort, alloc: Global, plan: &Plan, claim: &Claim) {
     let values = value_of(rt, alloc, plan, &inputs);
     let text = printed_text(rt, alloc, &values, outputs_of_health());
     expects(rt, is_text(text, claim.3), claim.3);
-    let placed = shown_by_place(rt, alloc, plan, &values, outputs_of_health());
-    expects(rt, is_text(placed, claim.3), claim.3);
     drop(values);
     drop(inputs);
 }
@@ -72,49 +67,6 @@ fn the_health_plan_has_its_values(rt: HostRuntime) {
     for claim in claims() {
         is_answered(&rt, rt.alloc(), &plan, claim);
     }
-    drop(plan);
-}
-
-/// Texts that replace each other in one slot, shorter and longer ones in turn, with their literals.
-fn codes() -> &'static [(&'static str, &'static str)] {
-    &[
-        ("LONGER", "\"LONGER\""),
-        ("A", "\"A\""),
-        ("", "\"\""),
-        ("THE LONGEST", "\"THE LONGEST\""),
-    ]
-}
-
-fn is_given(rt: &impl Abort, alloc: Global, inputs: &mut Inputs, given: &str, literal: &str) {
-    give_text(rt, alloc, inputs, CODE, given);
-    let text = literal_of(rt, alloc, inputs.get(CODE));
-    expects(rt, is_text(text, literal), literal);
-}
-
-#[test]
-fn a_text_is_given_over_another(rt: HostRuntime) {
-    let plan = plan_of(&rt, rt.alloc(), health_plan().as_bytes());
-    let mut inputs = inputs_of(&rt, rt.alloc(), &plan);
-    for (given, literal) in codes() {
-        is_given(&rt, rt.alloc(), &mut inputs, given, literal);
-    }
-    drop(inputs);
-    drop(plan);
-}
-
-fn needs_what_it_reads(plan: &Plan) -> bool {
-    plan.needs(BILLED) && plan.needs(CODE) && plan.needs(MET)
-}
-
-fn needs_others(plan: &Plan) -> bool {
-    plan.needs(0) || plan.needs(7) || plan.needs(99)
-}
-
-#[test]
-fn what_a_plan_needs(rt: HostRuntime) {
-    let plan = plan_of(&rt, rt.alloc(), health_plan().as_bytes());
-    let needs = needs_what_it_reads(&plan) && !needs_others(&plan);
-    expects(&rt, needs, "what it reads, and no more");
     drop(plan);
 }
 

@@ -8,12 +8,11 @@ mod alike;
 mod plans;
 mod wide_plans;
 
-use crate::answers::{is_text, plan_of};
+use crate::answers::plan_of;
 use crate::ending::{expects, fail};
 use cutplan::{CELL_LIMIT, CheckFault, CutPlan, Region, compile};
-use feel_tests::{Literals, Value, append_joined};
 use plans::{flag_and_code, no_region_after_ten_columns, seventeen_regions, sixteen_regions};
-use std::alloc::{AllocError, Global};
+use std::alloc::Global;
 use std::process::Abort;
 use tables::{Plan, Sequence};
 
@@ -48,82 +47,11 @@ fn is_pair(pairs: &[(usize, usize)], first: usize, second: usize) -> bool {
     }
 }
 
-// Writes the regions of cells, one line for each cell.
-fn printed_text(alloc: Global, cells: &[Sequence<Region>]) -> Result<Vec<u8>, AllocError> {
-    let mut text = Vec::new(alloc);
-    for cell in cells {
-        write_cell(&mut text, cell.as_slice())?;
-        text.push(b'\n')?;
-    }
-    Ok(text)
-}
-
-fn write_cell(text: &mut Vec<u8>, cell: &[Region]) -> Result<(), AllocError> {
-    for region in cell {
-        write_region(text, region)?;
-        text.push(b';')?;
-    }
-    Ok(())
-}
-
-fn write_region(text: &mut Vec<u8>, region: &Region) -> Result<(), AllocError> {
-    match region {
-        Region::Below(cut) => write_after(text, b"<", cut),
-        Region::At(value) => value.write_text(text),
-        Region::Between(low, high) => {
-            write_after(text, b">", low)?;
-            write_after(text, b"<", high)
-        }
-        Region::Above(cut) => write_after(text, b">", cut),
-        Region::Other(names) => {
-            text.extend_from_slice(b"none of ")?;
-            append_joined::<Value, Literals>(text, ",", names.as_slice())
-        }
-        Region::Every => text.extend_from_slice(b"-"),
-    }
-}
-
-fn write_after(text: &mut Vec<u8>, mark: &[u8], cut: &Value) -> Result<(), AllocError> {
-    text.extend_from_slice(mark)?;
-    cut.write_text(text)
-}
-
-/// The expected gaps of a table.
-#[derive(Clone, Copy)]
-enum Gaps<'a> {
-    /// Exactly these gaps, as text.
-    Shown(&'a str),
-    /// This number of gaps.
-    Count(usize),
-    /// No gaps, because the table has too many cells.
-    TooWide,
-}
-
-fn check_cells(rt: &impl Abort, alloc: Global, cells: &[Sequence<Region>], wanted: Gaps<'_>) {
-    match wanted {
-        Gaps::Shown(wanted) => expects(rt, is_text(text_of(rt, alloc, cells), wanted), wanted),
-        Gaps::Count(count) => expects(rt, cells.len() == count, "this number of gaps"),
-        Gaps::TooWide => fail(rt, "too many cells"),
-    }
-}
-
-fn text_of(rt: &impl Abort, alloc: Global, cells: &[Sequence<Region>]) -> Vec<u8> {
-    match printed_text(alloc, cells) {
-        Ok(text) => text,
-        Err(_) => printed_text(alloc, cells).expect(rt, "memory for a text"),
-    }
-}
-
-fn is_too_wide(fault: CheckFault, wanted: Gaps<'_>) -> bool {
-    fault == CheckFault::TooWide && matches!(wanted, Gaps::TooWide)
-}
-
-fn check_gaps(rt: &impl Abort, alloc: Global, cut: &CutPlan, wanted: Gaps<'_>)
-    requires { IsTableNumber cut.now 1 }
-{
-    match gaps_of(alloc, cut) {
-        Ok(cells) => check_cells(rt, alloc, cells.as_slice(), wanted),
-        Err(fault) => expects(rt, is_too_wide(fault, wanted), "gaps"),
+// Returns whether there is this number of gaps, or `None`, because the table has too many cells.
+fn are_gaps(found: Result<Vec<Sequence<Region>>, CheckFault>, wanted: Option<usize>) -> bool {
+    match found {
+        Ok(cells) => wanted == Some(cells.len()),
+        Err(fault) => wanted.is_none() && fault == CheckFault::TooWide,
     }
 }
 
@@ -149,62 +77,41 @@ fn check_first(
     rt: &impl Abort,
     alloc: Global,
     plan: &Plan,
-    gaps: Gaps<'_>,
+    gaps: Option<usize>,
     overlap: Option<(usize, usize)>,
 ) {
     assert!(rt; plan.tables().len() > 0);
     let cut = cut_of(rt, alloc, plan);
-    check_gaps(rt, alloc, &cut, gaps);
+    expects(rt, are_gaps(gaps_of(alloc, &cut), gaps), "the gaps");
     check_overlaps(rt, alloc, &cut, overlap);
 }
 
-// Requires the gaps of the first table of a plan and its only overlap, if there is one.
+// Requires the number of gaps of the first table of a plan, or that it has too many cells, and its
+// only overlap, if there is one.
 fn check(
     rt: &impl Abort,
     alloc: Global,
     text: &[u8],
-    gaps: Gaps<'_>,
+    gaps: Option<usize>,
     overlap: Option<(usize, usize)>,
 ) {
     let plan = plan_of(rt, alloc, text);
     check_first(rt, alloc, &plan, gaps, overlap);
 }
 
-// The earlier columns have too many tuples of regions to visit, so the walk over cells must not
-// start.
-#[test]
-fn a_last_column_without_a_region_leaves_no_gap(rt: HostRuntime) {
-    check(
-        &rt,
-        rt.alloc(),
-        no_region_after_ten_columns(),
-        Gaps::Shown(""),
-        None,
-    );
-}
-
-// `./check` runs this test once for each of its allocations, with that allocation refused.
+// In the first plan the earlier columns have too many tuples of regions to visit, so the walk over
+// cells must not start. `./check` runs this test once for each of its allocations, with that
+// allocation refused.
 #[test]
 fn gaps_and_overlaps_are_listed_though_memory_is_refused(rt: HostRuntime) {
-    let gaps = "false;\"A\";\ntrue;none of \"A\",\"B\";\n";
-    check(
-        &rt,
-        rt.alloc(),
-        flag_and_code(),
-        Gaps::Shown(gaps),
-        Some((2, 3)),
-    );
+    let no_region = no_region_after_ten_columns();
+    check(&rt, rt.alloc(), no_region, Some(0), None);
+    check(&rt, rt.alloc(), flag_and_code(), Some(2), Some((2, 3)));
 }
 
 #[test]
 fn sixteen_and_seventeen_regions_in_each_of_four_columns(rt: HostRuntime) {
-    check(
-        &rt,
-        rt.alloc(),
-        sixteen_regions(),
-        Gaps::Count(61_440),
-        None,
-    );
-    check(&rt, rt.alloc(), seventeen_regions(), Gaps::TooWide, None);
+    check(&rt, rt.alloc(), sixteen_regions(), Some(61_440), None);
+    check(&rt, rt.alloc(), seventeen_regions(), None, None);
     expects(&rt, CELL_LIMIT == 65_536, "the limit of cells");
 }

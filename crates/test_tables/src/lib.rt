@@ -11,8 +11,6 @@ mod cuts;
 #[cfg(test)]
 mod ending;
 #[cfg(test)]
-mod hit_policies;
-#[cfg(test)]
 mod plans;
 #[cfg(test)]
 mod reading;

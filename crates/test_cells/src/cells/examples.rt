@@ -1,10 +1,10 @@
 //! Literals and fields of each kind, and their values. The end-to-end cases show for which values
 //! cells hold.
-use super::{field_fault_of, plain_of, value_of};
+use super::{plain_of, value_of};
 use crate::ending::expects;
 use feel_tests::{
-    CellCause, CellFault, Kind, PlainFault, Value, field_spells_at_most_one_value,
-    literal_spells_its_value, text_spells_at_most_one_cell, text_spells_at_most_one_value,
+    CellCause, CellFault, Kind, Value, field_spells_at_most_one_value, literal_spells_its_value,
+    text_spells_at_most_one_cell, text_spells_at_most_one_value,
 };
 use std::alloc::Global;
 use std::process::Abort;
@@ -97,22 +97,6 @@ const FIELDS: [(Kind, &str, &str); 8] = [
     (Kind::Day, "2024-02-29", "date(\"2024-02-29\")"),
 ];
 
-const BAD_FIELDS: [(Kind, &str); 13] = [
-    (Kind::Number, ""),
-    (Kind::Number, " 1"),
-    (Kind::Number, "1.23451"),
-    (Kind::Number, "100000000000"),
-    (Kind::Number, "+1"),
-    (Kind::Flag, "True"),
-    (Kind::Flag, ""),
-    (Kind::Flag, "true "),
-    (Kind::Day, "2023-02-29"),
-    (Kind::Day, "2024-2-29"),
-    (Kind::Day, "0000-01-01"),
-    (Kind::Day, "date(\"2024-02-29\")"),
-    (Kind::Day, ""),
-];
-
 // `./check` runs this test once for each of its allocations, with that allocation refused.
 #[test]
 fn plain_fields_are_values_though_memory_is_refused(rt: HostRuntime) {
@@ -123,15 +107,6 @@ fn plain_fields_are_values_though_memory_is_refused(rt: HostRuntime) {
         expects(&rt, same, field);
     }
     field_spells_at_most_one_value();
-}
-
-#[test]
-fn plain_fields_are_refused(rt: HostRuntime) {
-    for row in &BAD_FIELDS {
-        let (kind, field) = *row;
-        let fault = field_fault_of(rt.alloc(), kind, field);
-        expects(&rt, fault == Some(PlainFault::Bad), field);
-    }
 }
 
 #[test]

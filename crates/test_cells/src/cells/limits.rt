@@ -1,22 +1,12 @@
-//! Long texts: fields at their limit and beyond, and each prefix of the longest cell, which is
-//! `not(`, 64 strings of 256 bytes with commas between them, and `)`. The end-to-end cases have the
-//! longest cell and other long ones, and the prefixes shorter than `not(`.
-use super::{fault_of, field_fault_of, repeat_test};
-use crate::ending::{expects, expects_at};
+//! Each prefix of the longest cell, which is `not(`, 64 strings of 256 bytes with commas between
+//! them, and `)`. The end-to-end cases have the longest cell and other long ones, and the prefixes
+//! shorter than `not(`.
+use super::{fault_of, repeat_test};
+use crate::ending::expects_at;
 use feel_tests::CellCause::Token;
-use feel_tests::{CellFault, Kind, PlainFault, TEST_LIMIT, TEXT_LIMIT_BYTES};
+use feel_tests::{CellFault, Kind, TEST_LIMIT, TEXT_LIMIT_BYTES};
 use std::alloc::Global;
 use std::process::Abort;
-
-#[test]
-fn a_field_has_at_most_256_bytes(rt: HostRuntime) {
-    let most = repeat_test(&rt, rt.alloc(), "", "x", TEXT_LIMIT_BYTES, "");
-    let fault = field_fault_of(rt.alloc(), Kind::Text, most.as_str());
-    expects(&rt, fault.is_none(), "a value");
-    let long = repeat_test(&rt, rt.alloc(), "", "x", 257, "");
-    let fault = field_fault_of(rt.alloc(), Kind::Text, long.as_str());
-    expects(&rt, fault == Some(PlainFault::Bad), "no value");
-}
 
 // The length of a string of the longest cell with the byte after it: two quotes, and a comma or the
 // parenthesis.

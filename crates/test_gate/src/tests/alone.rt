@@ -1,157 +1,225 @@
-//! A sequential gate without a lock, from its first call to its last.
-ghost use Rattle.std.specs.Prelude.{◌≡◌, Ok};
-ghost use Rattle.claim_gate.specs.declared.reply.Taken.TheVariants.{Work};
+//! A sequential gate without a lock. Two callers call it in turn, each with a job of its own.
+ghost use Rattle.std.specs.Prelude.{◌≡◌, IfSome};
+ghost use Rattle.journal.specs.Gate.{LeadsTo};
 ghost use Rattle.test_gate.specs.Words.{IsAnyOrder, IsAtWork};
 
-use super::events::{has_journal, is_journal};
+use super::expects;
 use super::filing::{gate_of, offer_at, read_all};
-use super::runs::{Calls, run};
-use super::scripts::one_file;
-use super::seats::decide_job;
-use super::{expects, fail};
-use claim_gate::{
-    Batch, Counts, FinishResult, GateState, Job, OfferResult, TakeFault, Taken, Terms,
-};
+use super::lines::{Call, Caller, Line, Said, first_counts};
+use super::replies::{LastJob, end_reply, finish_reply, is_job, is_paid, offer_reply, take_reply};
+use super::seats::{copy_of, decide_job, job_of};
+use claim_gate::{Counts, GateState, Job, Terms};
 use journal::jobs_are_stable;
 use std::alloc::Global;
 use std::process::Abort;
-use test_fixtures::{both_files, health_plan};
 
-// The counts of a gate that is not stopped.
-fn counts(accepted: usize, ended: usize, decided: usize, closed: bool) -> Counts {
-    Counts {
-        accepted,
-        ended,
-        decided,
-        closed,
-        stopped: false,
-    }
-}
-
-fn is_as_far(gate: &GateState, wanted: Counts) -> bool {
-    gate.counts() == wanted
-}
-
-fn is_over(reply: Result<Taken, TakeFault>) -> bool {
-    matches!(reply, Ok(Taken::Over))
-}
-
-fn is_nothing_ready(reply: Result<Taken, TakeFault>) -> bool {
-    matches!(reply, Ok(Taken::NothingReady))
-}
-
-fn is_accepted(reply: OfferResult, position: usize) -> bool {
-    match reply {
-        Ok(accepted) => accepted.position == position,
-        Err(_) => false,
-    }
-}
-
-fn is_recorded(reply: FinishResult) -> bool {
-    reply.is_ok()
-}
-
-fn is_unfinished<'t>(gate: GateState<'t>, terms: &'t Terms<'t>) -> bool
-    requires { gate.terms ≡ terms.now }
-{
-    Batch::from_state(gate, terms).is_err()
-}
-
-// Returns whether the run of the gate is finished and its journal has these events.
-fn is_finished<'t>(gate: GateState<'t>, terms: &'t Terms<'t>, words: &[u8]) -> bool
-    requires { gate.terms ≡ terms.now }
-{
-    match Batch::from_state(gate, terms) {
-        Ok(batch) => is_journal(batch.journal(), words),
-        Err(_) => false,
-    }
-}
-
-// The calls of a gate to which no claim was offered.
-pub fn begin_calls(rt: &impl Abort, alloc: Global, terms: &Terms) {
-    let mut gate = gate_of(rt, alloc, terms);
-    gate.prefetch(&[]);
-    expects(rt, has_journal(&gate, b""), "an empty journal");
-    expects(rt, is_as_far(&gate, counts(0, 0, 0, false)), "no counts");
-    expects(rt, is_nothing_ready(gate.take()), "nothing ready");
-    expects(rt, is_unfinished(gate, terms), "a run that isn't finished");
-}
-
-#[test]
-fn nothing_is_offered_yet(rt: HostRuntime) {
-    run(
-        &rt,
-        rt.alloc(),
-        health_plan(),
-        both_files(),
-        None,
-        Calls::Begin,
-    );
-}
-
-// Accepts the only claim and ends its provider.
 #[tactic(auto, using(crate::proofs::Order::any_order))]
-fn accept_only<'t>(rt: &impl Abort, alloc: Global, terms: &'t Terms<'t>, gate: &mut GateState<'t>)
+fn offer(
+    rt: &impl Abort,
+    alloc: Global,
+    terms: &Terms,
+    gate: &mut GateState,
+    filed: (usize, usize, &str),
+) -> Said
     requires any_order { IsAnyOrder terms.now }
     requires terms { gate.old.terms ≡ terms.now }
-    ensures { gate.new.terms ≡ terms.now }
+    ensures { LeadsTo gate.old gate.new }
 {
-    let offer = offer_at(rt, alloc, terms, 1, 0);
-    read_all(rt, alloc, terms, 1, 1);
-    expects(rt, is_accepted(gate.offer(offer), 0), "an accepted claim");
-    expects(rt, gate.end(1, 1).is_ok(), "an end");
+    let (provider, place, id) = filed;
+    let offer = offer_at(rt, alloc, terms, provider, place);
+    offer_reply(rt, gate.offer(offer), provider, place, id)
 }
 
-fn work_of(rt: &impl Abort, reply: Result<Taken, TakeFault>) -> Job
-    ensures { reply ≡ Ok (Work result) }
+fn end(
+    rt: &impl Abort,
+    alloc: Global,
+    terms: &Terms,
+    gate: &mut GateState,
+    provider: usize,
+    count: usize,
+) -> Said
+    requires { gate.old.terms ≡ terms.now }
+    ensures { LeadsTo gate.old gate.new }
 {
-    match reply {
-        Ok(Taken::Work(job)) => job,
-        _ => fail(rt, "work"),
+    read_all(rt, alloc, terms, provider, count);
+    end_reply(gate.end(provider, count))
+}
+
+fn take(gate: &mut GateState, job: Option<Job>) -> LastJob
+    requires { IfSome job (IsAtWork gate.old) }
+    ensures leads { LeadsTo gate.old gate.new }
+    ensures at_work { IfSome result.job (IsAtWork gate.new) }
+{
+    jobs_are_stable();
+    take_reply(gate.take(), job)
+}
+
+fn finish(
+    rt: &impl Abort,
+    alloc: Global,
+    terms: &Terms,
+    gate: &mut GateState,
+    job: Job,
+    paid: i64,
+) -> LastJob
+    requires terms { gate.old.terms ≡ terms.now }
+    requires at_work { IsAtWork gate.old job }
+    ensures leads { LeadsTo gate.old gate.new }
+    ensures at_work { IfSome result.job (IsAtWork gate.new) }
+{
+    jobs_are_stable();
+    let spare = copy_of(rt, alloc, &job);
+    let outcome = decide_job(rt, alloc, terms, &job);
+    expects(rt, is_paid(outcome.outcome(), paid), "the paid amount");
+    let reply = gate.finish(job, outcome);
+    LastJob {
+        said: finish_reply(rt, reply, &spare, paid),
+        job: Some(spare),
     }
 }
 
-fn take_only<'t>(rt: &impl Abort, gate: &mut GateState<'t>) -> Job
-    ensures terms { gate.new.terms ≡ gate.old.terms }
-    ensures at_work { IsAtWork gate.new result }
+// Makes a call for a caller that has this job, if it has one.
+fn make(
+    rt: &impl Abort,
+    alloc: Global,
+    terms: &Terms,
+    gate: &mut GateState,
+    job: Option<Job>,
+    call: Call,
+) -> LastJob
+    requires any_order { IsAnyOrder terms.now }
+    requires terms { gate.old.terms ≡ terms.now }
+    requires at_work { IfSome job (IsAtWork gate.old) }
+    ensures leads { LeadsTo gate.old gate.new }
+    ensures at_work { IfSome result.job (IsAtWork gate.new) }
 {
     jobs_are_stable();
-    work_of(rt, gate.take())
+    match call {
+        Call::Offer(provider, place, id) => LastJob {
+            said: offer(rt, alloc, terms, gate, (provider, place, id)),
+            job,
+        },
+        Call::End(provider, count) => LastJob {
+            said: end(rt, alloc, terms, gate, provider, count),
+            job,
+        },
+        Call::Take => take(gate, job),
+        Call::Finish(paid) => finish(rt, alloc, terms, gate, job_of(rt, job), paid),
+        Call::Stop => {
+            gate.stop();
+            LastJob {
+                said: Said::word("done"),
+                job,
+            }
+        }
+        Call::Counts(accepted, ended, decided, closed, stopped) => {
+            let wanted = Counts {
+                accepted,
+                ended,
+                decided,
+                closed,
+                stopped,
+            };
+            LastJob {
+                said: Said::is_so(gate.counts() == wanted),
+                job,
+            }
+        }
+        Call::Holds(id, amounts) => LastJob {
+            said: Said::is_so(is_job(&job, id, amounts)),
+            job,
+        },
+    }
 }
 
-// Takes and decides the only claim.
-fn decide_only<'t>(rt: &impl Abort, alloc: Global, terms: &'t Terms<'t>, gate: &mut GateState<'t>)
-    requires { gate.old.terms ≡ terms.now }
-    ensures { gate.new.terms ≡ terms.now }
+// Makes the call of a line, and checks the reply. A call that runs out of memory is repeated once,
+// after a check that the gate still has these counts, which it had before.
+fn go(
+    rt: &impl Abort,
+    alloc: Global,
+    terms: &Terms,
+    gate: &mut GateState,
+    job: Option<Job>,
+    line: Line,
+    before: Counts,
+) -> Option<Job>
+    requires any_order { IsAnyOrder terms.now }
+    requires terms { gate.old.terms ≡ terms.now }
+    requires at_work { IfSome job (IsAtWork gate.old) }
+    ensures leads { LeadsTo gate.old gate.new }
+    ensures at_work { IfSome result (IsAtWork gate.new) }
 {
-    let job = take_only(rt, gate);
-    let outcome = decide_job(rt, alloc, terms, &job);
-    let reply = gate.finish(job, outcome);
-    expects(rt, is_recorded(reply), "a recorded outcome");
+    let LastJob { said, job } = make(rt, alloc, terms, gate, job, line.1);
+    if !said.is_out_of_memory() {
+        line.check(rt, said);
+        return job;
+    }
+    expects(rt, gate.counts() == before, "the counts of before");
+    let LastJob { said, job } = make(rt, alloc, terms, gate, job, line.1);
+    line.check(rt, said);
+    job
 }
 
-// A run of a single claim up to its end.
-pub fn end_calls(rt: &impl Abort, alloc: Global, terms: &Terms)
+// The jobs of the two callers.
+#[derive(Drop)]
+struct Jobs {
+    one: Option<Job>,
+    other: Option<Job>,
+}
+
+fn go_by(
+    rt: &impl Abort,
+    alloc: Global,
+    terms: &Terms,
+    gate: &mut GateState,
+    jobs: Jobs,
+    line: Line,
+    before: Counts,
+) -> Jobs
+    requires any_order { IsAnyOrder terms.now }
+    requires terms { gate.old.terms ≡ terms.now }
+    requires one { IfSome jobs.one (IsAtWork gate.old) }
+    requires other { IfSome jobs.other (IsAtWork gate.old) }
+    ensures terms { gate.new.terms ≡ terms.now }
+    ensures one { IfSome result.one (IsAtWork gate.new) }
+    ensures other { IfSome result.other (IsAtWork gate.new) }
+{
+    jobs_are_stable();
+    let Jobs { one, other } = jobs;
+    match line.0 {
+        Caller::One => Jobs {
+            one: go(rt, alloc, terms, gate, one, line, before),
+            other,
+        },
+        Caller::Other => Jobs {
+            one,
+            other: go(rt, alloc, terms, gate, other, line, before),
+        },
+    }
+}
+
+/// Goes through a script on a gate to which no claim was offered. Returns the gate.
+pub fn play_alone<'t>(
+    rt: &impl Abort,
+    alloc: Global,
+    terms: &'t Terms<'t>,
+    script: &[Line],
+) -> GateState<'t>
     requires { IsAnyOrder terms.now }
+    ensures { result.terms ≡ terms.now }
 {
     let mut gate = gate_of(rt, alloc, terms);
-    accept_only(rt, alloc, terms, &mut gate);
-    expects(rt, has_journal(&gate, b"A10E1 C  "), "this journal");
-    expects(rt, is_as_far(&gate, counts(1, 1, 0, true)), "these counts");
-    decide_only(rt, alloc, terms, &mut gate);
-    expects(rt, is_over(gate.take()), "the end");
-    let finished = is_finished(gate, terms, b"A10E1 C  T0 D0 ");
-    expects(rt, finished, "a finished journal");
-}
-
-#[test]
-fn the_last_end_closes(rt: HostRuntime) {
-    run(
-        &rt,
-        rt.alloc(),
-        health_plan(),
-        one_file(),
-        None,
-        Calls::RunToTheEnd,
-    );
+    gate.prefetch(&[]);
+    let mut jobs = Jobs {
+        one: None,
+        other: None,
+    };
+    let mut counts = first_counts(terms);
+    for entry in script {
+        let line = *entry;
+        jobs = go_by(rt, alloc, terms, &mut gate, jobs, line, counts);
+        counts = line.counts_after(terms, counts);
+    }
+    drop(jobs);
+    gate
 }

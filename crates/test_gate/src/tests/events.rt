@@ -1,6 +1,6 @@
 //! A journal as a short text, so that a test can give the expected journal on one line.
 
-use claim_gate::{Event, GateState};
+use claim_gate::Event;
 
 // The number of bytes for an event.
 const WORD_BYTES: usize = 3;
@@ -36,8 +36,4 @@ pub fn is_journal(journal: &[Event], words: &[u8]) -> bool {
         rest = rest.get(WORD_BYTES..).unwrap_or(&[]);
     }
     rest.is_empty()
-}
-
-pub fn has_journal(gate: &GateState, words: &[u8]) -> bool {
-    is_journal(gate.journal(), words)
 }

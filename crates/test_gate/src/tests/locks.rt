@@ -1,11 +1,12 @@
-//! Gates in locks: their initial states, the plays on them, and their journals at the end. Whatever
-//! runs out of memory is repeated once.
+//! Gates with and without locks: their initial states, the plays on them, and their journals at the
+//! end. Whatever runs out of memory is repeated once.
 ghost use Rattle.std.specs.Prelude.{◌≡◌, IfSome};
 ghost use Rattle.turn_lock.specs.SpinShown.{IsPassOf as IsSpinPassOf, pass_seen};
 ghost use Rattle.turn_lock.specs.TicketShown.{IsPassOf, pass_knows};
 ghost use Rattle.claim_gate.specs.Locked.{lock_of};
 ghost use Rattle.test_gate.specs.Words.{IsAnyOrder};
 
+use super::alone::play_alone;
 use super::events::is_journal;
 use super::expects;
 use super::filing::gate_of;
@@ -32,33 +33,25 @@ fn spin_gate<'t>(
     }
 }
 
-/// A gate to which no claim was offered, in a ticket lock.
+/// A gate to which no claim was offered, in a ticket lock whose first ticket is `first`.
 pub fn by_tickets<'t>(
     rt: &impl Abort,
     alloc: Global,
     terms: &'t Terms<'t>,
+    first: u64,
 ) -> (TicketLock<GateState<'t>>, Pass<GateState<'t>>)
     ensures own { IsPassOf result.0 result.1 }
     ensures terms { (pass_knows result.1).seen.terms ≡ terms.now }
 {
-    match TicketLock::new(alloc, gate_of(rt, alloc, terms)) {
+    match TicketLock::new_at(alloc, gate_of(rt, alloc, terms), first) {
         Ok(made) => made,
-        Err(_) => TicketLock::new(alloc, gate_of(rt, alloc, terms)).expect(rt, "memory for a lock"),
+        Err(_) => {
+            TicketLock::new_at(alloc, gate_of(rt, alloc, terms), first).expect(
+                rt,
+                "memory for a lock",
+            )
+        }
     }
-}
-
-/// A gate to which no claim was offered, in a ticket lock whose first ticket is `used`.
-pub fn with_used<'t>(
-    rt: &impl Abort,
-    alloc: Global,
-    terms: &'t Terms<'t>,
-    used: u64,
-) -> (TicketLock<GateState<'t>>, Pass<GateState<'t>>)
-    ensures own { IsPassOf result.0 result.1 }
-    ensures terms { (pass_knows result.1).seen.terms ≡ terms.now }
-{
-    let gate = gate_of(rt, alloc, terms);
-    TicketLock::new_at(alloc, gate, used).expect(rt, "memory for a lock")
 }
 
 /// Takes the sequential gate out of its lock. There is none if no ticket is left.
@@ -107,13 +100,14 @@ where
     state
 }
 
-/// The lock of a gate.
+/// What a gate is in.
 #[derive(Clone, Copy)]
 pub enum Lock {
+    /// No lock: the gate is called directly.
+    Missing,
     Spin,
-    Tickets,
     /// A ticket lock whose first ticket is this one.
-    TicketsFrom(u64),
+    Tickets(u64),
 }
 
 /// The end of a play: the gate can't be taken out of its lock, since no ticket is left, or it has
@@ -179,16 +173,13 @@ impl Play {
         ensures { IfSome result (λ gate. gate.terms ≡ terms.now) }
     {
         match self.lock {
+            Lock::Missing => Some(play_alone(rt, alloc, terms, self.script)),
             Lock::Spin => {
                 let (lock, pass) = spin_gate(rt, alloc, terms);
                 play_over(rt, alloc, terms, lock, pass, self.script)
             }
-            Lock::Tickets => {
-                let (lock, pass) = by_tickets(rt, alloc, terms);
-                play_over(rt, alloc, terms, lock, pass, self.script)
-            }
-            Lock::TicketsFrom(used) => {
-                let (lock, pass) = with_used(rt, alloc, terms, used);
+            Lock::Tickets(first) => {
+                let (lock, pass) = by_tickets(rt, alloc, terms, first);
                 play_over(rt, alloc, terms, lock, pass, self.script)
             }
         }

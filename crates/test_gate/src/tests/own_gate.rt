@@ -7,7 +7,7 @@ use super::expects;
 use super::locks::{by_tickets, check_ending, retire_gate};
 use super::play::play;
 use super::runs::{Calls, run};
-use super::scripts::{one_file, own_ending, own_script};
+use super::scripts::{one_file, only_script};
 use claim_gate::{
     BoxedOutcome, Counts, DecidedJob, EndFault, Ended, FinishResult, Gate, Job, LockedGate, Offer,
     OfferResult, SerialGate, Served, TakeFault, Taken, Terms, WornOut,
@@ -108,8 +108,7 @@ impl<G: Gate> Gate for CountedGate<G> {
     }
 }
 
-// The calls are one offer, end and take, two finishes, the counts, and the stop. Returns the
-// sequential gate.
+// Goes through a script of nine calls. Returns the sequential gate.
 fn calls_over<S: Section + Drop>(
     rt: &(impl Abort + Wait),
     alloc: Global,
@@ -127,8 +126,8 @@ where
 {
     let counted = CountedGate::over(LockedGate::over(lock));
     let passes = counted.split(pass);
-    let (pass, _other) = play(rt, alloc, terms, &counted, passes, own_script());
-    expects(rt, counted.calls.load(Ordering::SeqCst) == 7, "seven calls");
+    let (pass, _other) = play(rt, alloc, terms, &counted, passes, only_script().lines);
+    expects(rt, counted.calls.load(Ordering::SeqCst) == 9, "nine calls");
     let state = retire_gate(rt, terms, &counted.gate, pass);
     drop(counted);
     state
@@ -137,9 +136,9 @@ where
 pub fn own_calls(rt: &(impl Abort + Wait), alloc: Global, terms: &Terms)
     requires { IsAnyOrder terms.now }
 {
-    let (lock, pass) = by_tickets(rt, alloc, terms);
+    let (lock, pass) = by_tickets(rt, alloc, terms, 0);
     let state = calls_over(rt, alloc, terms, lock, pass);
-    check_ending(rt, terms, state, own_ending())
+    check_ending(rt, terms, state, only_script().ending)
 }
 
 #[test]

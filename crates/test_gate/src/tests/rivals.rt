@@ -5,10 +5,12 @@ ghost use Rattle.claim_gate.specs.Terms.{ForTerms};
 ghost use Rattle.claim_gate.specs.Replies.{IsFiled};
 ghost use Rattle.test_gate.specs.Words.{IsAnyOrder, IsCaller};
 
-use super::filing::{offer_at, plan_of, terms_of};
+use super::events::is_journal;
+use super::filing::offer_at;
 use super::locks::by_tickets;
+use super::runs::{Calls, run};
 use super::{expects, fail};
-use claim_gate::{Event, Gate, LockedGate, Offer, OfferFault, SerialGate, Served, Terms};
+use claim_gate::{Gate, LockedGate, Offer, OfferFault, SerialGate, Served, Terms};
 use std::alloc::Global;
 use std::process::Abort;
 use std::sync::Wait;
@@ -18,56 +20,15 @@ use std::thread::Threads;
 use test_fixtures::{both_files, health_plan};
 use turn_lock::Section;
 
-/// The answers at each of the first four positions: the sum of `place + 1` over all callers whose
-/// claim was accepted there.
-#[derive(Drop)]
-struct AcceptedPlaces {
-    first: AtomicU64,
-    second: AtomicU64,
-    third: AtomicU64,
-    fourth: AtomicU64,
-}
-
-impl AcceptedPlaces {
-    fn nothing() -> AcceptedPlaces {
-        AcceptedPlaces {
-            first: AtomicU64::new(0),
-            second: AtomicU64::new(0),
-            third: AtomicU64::new(0),
-            fourth: AtomicU64::new(0),
-        }
+// The number that stands for a claim of the first file that was accepted for a caller. A sum of
+// these has a digit for each place, which counts how often the claim there was accepted.
+fn unit_of(place: usize) -> u64 {
+    match place {
+        0 => 1,
+        1 => 10,
+        2 => 100,
+        _ => 1000,
     }
-
-    fn at(&self, position: usize) -> &AtomicU64 {
-        match position {
-            0 => &self.first,
-            1 => &self.second,
-            2 => &self.third,
-            _ => &self.fourth,
-        }
-    }
-
-    fn note(&self, position: usize, place: usize) {
-        let number = (place as u64).saturating_add(1);
-        self.at(position).fetch_add(number, Ordering::SeqCst);
-    }
-
-    // Returns whether the journal accepts the four claims of the first provider in order, and each
-    // of them was accepted for exactly one caller.
-    fn is_journal(&self, journal: &[Event]) -> bool {
-        for (position, event) in journal.iter().enumerate() {
-            let reported = self.at(position).load(Ordering::SeqCst);
-            let number = (position as u64).saturating_add(1);
-            if !is_accept(event, position) || reported != number {
-                return false;
-            }
-        }
-        journal.len() == 4
-    }
-}
-
-fn is_accept(event: &Event, wanted: usize) -> bool {
-    matches!(event, Event::Accept { provider: 1, place } if *place == wanted)
 }
 
 // Returns the place of the fault.
@@ -86,7 +47,7 @@ fn offer_next<R: Wait + Abort, G: Gate>(
     gate: &G,
     pass: G::Pass,
     offer: Offer,
-    reported: &AcceptedPlaces,
+    accepted: &AtomicU64,
 ) -> (usize, G::Pass)
     requires caller { IsCaller (G.has_pass gate.now) G.known terms.now pass }
     requires filed { ForTerms terms.now (λ T. IsFiled T offer) }
@@ -98,8 +59,9 @@ fn offer_next<R: Wait + Abort, G: Gate>(
         fail(rt, "a reply")
     };
     match reply {
-        Ok(accepted) => {
-            reported.note(accepted.position, place);
+        Ok(reply) => {
+            expects(rt, reply.position == place, "the position of the place");
+            accepted.fetch_add(unit_of(place), Ordering::SeqCst);
             (place.saturating_add(1), pass)
         }
         Err(refused) => (place_expected(rt, refused.fault), pass),
@@ -114,7 +76,7 @@ fn offer_from<R: Wait + Abort, G: Gate>(
     gate: &G,
     place: usize,
     pass: G::Pass,
-    reported: &AcceptedPlaces,
+    accepted: &AtomicU64,
 ) -> (usize, G::Pass)
     requires caller { IsCaller (G.has_pass gate.now) G.known terms.now pass }
     ensures caller { IsCaller (G.has_pass gate.now) G.known terms.now result.1 }
@@ -123,7 +85,7 @@ fn offer_from<R: Wait + Abort, G: Gate>(
         return (place, pass);
     }
     let offer = offer_at(rt, alloc, terms, 1, place);
-    offer_next(rt, terms, gate, pass, offer, reported)
+    offer_next(rt, terms, gate, pass, offer, accepted)
 }
 
 // Offers the four claims of the first file.
@@ -133,14 +95,14 @@ fn offer_all<R: Wait + Abort, G: Gate>(
     terms: &Terms,
     gate: &G,
     pass: G::Pass,
-    reported: &AcceptedPlaces,
+    accepted: &AtomicU64,
 )
     requires caller { IsCaller (G.has_pass gate.now) G.known terms.now pass }
 {
-    let next = offer_from(rt, alloc, terms, gate, 0, pass, reported);
-    let next = offer_from(rt, alloc, terms, gate, next.0, next.1, reported);
-    let next = offer_from(rt, alloc, terms, gate, next.0, next.1, reported);
-    let next = offer_from(rt, alloc, terms, gate, next.0, next.1, reported);
+    let next = offer_from(rt, alloc, terms, gate, 0, pass, accepted);
+    let next = offer_from(rt, alloc, terms, gate, next.0, next.1, accepted);
+    let next = offer_from(rt, alloc, terms, gate, next.0, next.1, accepted);
+    let next = offer_from(rt, alloc, terms, gate, next.0, next.1, accepted);
     expects(rt, next.0 == 4, "all four");
 }
 
@@ -151,7 +113,7 @@ fn offer_by_two<R: Threads + Wait + Abort + Sync, G: Gate + Sync>(
     terms: &Terms,
     gate: &G,
     pass: G::Pass,
-    reported: &AcceptedPlaces,
+    accepted: &AtomicU64,
 )
     requires caller { IsCaller (G.has_pass gate.now) G.known terms.now pass }
 {
@@ -165,9 +127,9 @@ fn offer_by_two<R: Threads + Wait + Abort + Sync, G: Gate + Sync>(
         {
             let job = move ||
                 requires { IsCaller (G.has_pass gate.now) G.known terms.now theirs }
-            { offer_all(rt, alloc, terms, gate, theirs, reported) };
+            { offer_all(rt, alloc, terms, gate, theirs, accepted) };
             let started = scope.spawn(job).is_ok();
-            offer_all(rt, alloc, terms, gate, mine, reported);
+            offer_all(rt, alloc, terms, gate, mine, accepted);
             expects(rt, started, "a thread");
         },
     )
@@ -187,33 +149,37 @@ where
     requires own { S.has_pass lock pass }
     requires terms { (S.Value.shown (S.seen pass)).terms ≡ terms.now }
 {
-    let reported = AcceptedPlaces::nothing();
+    let accepted = AtomicU64::new(0);
     let gate = LockedGate::over(lock);
     let (pass, mine) = gate.split(pass);
-    offer_by_two(rt, alloc, terms, &gate, mine, &reported);
+    offer_by_two(rt, alloc, terms, &gate, mine, &accepted);
+    expects(
+        rt,
+        accepted.load(Ordering::SeqCst) == 1111,
+        "each claim once",
+    );
     match gate.retire(rt, pass) {
-        Ok(state) => expects(rt, reported.is_journal(state.journal()), "this journal"),
+        Ok(state) => expects(
+            rt,
+            is_journal(state.journal(), b"A10A11A12A13"),
+            "the claims in order",
+        ),
         Err(_) => fail(rt, "the gate of one thread"),
     }
     drop(gate);
 }
 
-fn rivals<R: Threads + Wait + Abort + Sync>(rt: &R, alloc: Global, terms: &Terms)
-    requires any_order { IsAnyOrder terms.now }
+pub fn rivals<R: Threads + Wait + Abort + Sync>(rt: &R, alloc: Global, terms: &Terms)
+    requires { IsAnyOrder terms.now }
 {
-    let (lock, pass) = by_tickets(rt, alloc, terms);
+    let (lock, pass) = by_tickets(rt, alloc, terms, 0);
     rivals_over(rt, alloc, terms, lock, pass);
-}
-
-fn rivals_of_files<R: Threads + Wait + Abort + Sync>(rt: &R, alloc: Global) {
-    let plan = plan_of(rt, alloc, health_plan().as_bytes());
-    let terms = terms_of(rt, alloc, &plan, both_files(), None);
-    rivals(rt, alloc, &terms);
 }
 
 #[test]
 fn two_threads_offer_the_same_file(rt: HostRuntime) {
     for _ in 0..10 {
-        rivals_of_files(&rt, rt.alloc());
+        let calls = Calls::OfferByTwoThreads;
+        run(&rt, rt.alloc(), health_plan(), both_files(), None, calls);
     }
 }

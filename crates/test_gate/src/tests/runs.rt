@@ -2,45 +2,42 @@
 //! given as texts.
 ghost use Rattle.test_gate.specs.Words.{IsAnyOrder};
 
-use super::alone::{begin_calls, end_calls};
 use super::filing::{plan_of, terms_of};
 use super::locks::Play;
-use super::meeting::{meet_once, meet_without};
+use super::meeting::meet_once;
 use super::own_gate::own_calls;
+use super::rivals::rivals;
 use claim_gate::Terms;
 use std::alloc::Global;
 use std::process::Abort;
 use std::sync::Wait;
+use std::thread::Threads;
 
 /// The calls that a run makes.
 #[derive(Clone, Copy)]
 pub enum Calls {
-    Begin,
-    RunToTheEnd,
     CallOwnGate,
     Meet,
-    MeetWithoutTicket,
+    OfferByTwoThreads,
     Play(Play),
 }
 
 impl Calls {
-    fn make(self, rt: &(impl Abort + Wait), alloc: Global, terms: &Terms)
+    fn make<R: Threads + Wait + Abort + Sync>(self, rt: &R, alloc: Global, terms: &Terms)
         requires { IsAnyOrder terms.now }
     {
         match self {
-            Calls::Begin => begin_calls(rt, alloc, terms),
-            Calls::RunToTheEnd => end_calls(rt, alloc, terms),
             Calls::CallOwnGate => own_calls(rt, alloc, terms),
             Calls::Meet => meet_once(rt, alloc, terms),
-            Calls::MeetWithoutTicket => meet_without(rt, alloc, terms),
+            Calls::OfferByTwoThreads => rivals(rt, alloc, terms),
             Calls::Play(play) => play.calls(rt, alloc, terms),
         }
     }
 }
 
 /// Makes the calls under terms without balances.
-pub fn run(
-    rt: &(impl Abort + Wait),
+pub fn run<R: Threads + Wait + Abort + Sync>(
+    rt: &R,
     alloc: Global,
     plan: &str,
     files: &[&[u8]],

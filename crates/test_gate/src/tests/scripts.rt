@@ -5,6 +5,10 @@ use super::lines::Caller::{One, Other};
 use super::lines::Line;
 use super::locks::{Ending, Lock, Play};
 use super::runs::{Calls, run};
+use std::alloc::Global;
+use std::process::Abort;
+use std::sync::Wait;
+use std::thread::Threads;
 use test_fixtures::{
     both_files, family_file, family_plan, first_file, header, health_plan, second_file,
 };
@@ -24,71 +28,77 @@ pub fn one_file() -> &'static [&'static [u8]] {
     ONE_FILE
 }
 
-// The play of a script on a gate in a spin lock.
-fn spinning(script: &'static [Line], ending: Ending) -> Calls {
-    Calls::Play(Play {
-        lock: Lock::Spin,
-        script,
-        ending,
-    })
+/// A script with its end.
+#[derive(Clone, Copy)]
+pub struct Script {
+    pub lines: &'static [Line],
+    pub ending: Ending,
 }
 
-// The play of a script on a gate in a ticket lock.
-fn by_tickets(script: &'static [Line], ending: Ending) -> Calls {
-    Calls::Play(Play {
-        lock: Lock::Tickets,
-        script,
-        ending,
-    })
+impl Script {
+    // The play of the script.
+    fn on(self, lock: Lock) -> Calls {
+        Calls::Play(Play {
+            lock,
+            script: self.lines,
+            ending: self.ending,
+        })
+    }
 }
 
-// The play of a script on a gate in a ticket lock that has this number of tickets left.
-fn with_left(left: u64, script: &'static [Line]) -> Calls {
-    Calls::Play(Play {
-        lock: Lock::TicketsFrom(u64::MAX.saturating_sub(left)),
-        script,
-        ending: Ending::Worn,
-    })
+// Goes through a script on a gate without a lock, in a spin lock, and in a ticket lock.
+fn on_each_gate<R: Threads + Wait + Abort + Sync>(
+    rt: &R,
+    alloc: Global,
+    plan: &str,
+    files: &[&[u8]],
+    cutoff: Option<u64>,
+    script: Script,
+) {
+    for lock in [Lock::Missing, Lock::Spin, Lock::Tickets(0)] {
+        run(rt, alloc, plan, files, cutoff, script.on(lock));
+    }
 }
 
-// No claim is admitted.
-static CLOSED: [Line; 4] = [
+// No claim is admitted. A stop comes before the close.
+static CLOSED: [Line; 9] = [
     Line(One, Counts(0, 0, 0, true, false), "yes", 0),
     Line(One, Offer(1, 0, "c1"), "closed", 0),
     Line(One, End(1, 4), "closed", 0),
     Line(One, Take, "over", 0),
+    Line(One, Stop, "done", 0),
+    Line(One, Counts(0, 0, 0, true, true), "yes", 0),
+    Line(One, Offer(1, 0, "c1"), "stopped", 0),
+    Line(One, End(1, 4), "stopped", 0),
+    Line(One, Take, "stopped", 0),
 ];
 
-fn closed_script() -> &'static [Line] {
-    &CLOSED
+fn closed_script() -> Script {
+    Script {
+        lines: &CLOSED,
+        ending: Ending::Finished(b"C  "),
+    }
 }
 
 #[test]
 fn no_claim_is_admitted_though_memory_is_refused(rt: HostRuntime) {
-    let calls = spinning(closed_script(), Ending::Finished(b"C  "));
-    run(&rt, rt.alloc(), health_plan(), both_files(), Some(0), calls);
-}
-
-static STOPPED: [Line; 3] = [
-    Line(One, Stop, "done", 0),
-    Line(One, Counts(0, 0, 0, true, true), "yes", 0),
-    Line(One, Take, "stopped", 0),
-];
-
-fn stopped_script() -> &'static [Line] {
-    &STOPPED
-}
-
-#[test]
-fn a_stopped_gate_hands_nothing_out(rt: HostRuntime) {
-    let calls = spinning(stopped_script(), Ending::Finished(b"C  "));
-    run(&rt, rt.alloc(), health_plan(), both_files(), Some(0), calls);
+    on_each_gate(
+        &rt,
+        rt.alloc(),
+        health_plan(),
+        both_files(),
+        Some(0),
+        closed_script(),
+    );
 }
 
 // A member's claims take turns, and a claim of another member is ready at once. A refused offer
-// comes back. A provider can't end before all its claims are accepted. After a stop each call is
-// refused, and a refused job comes back with its outcome.
-static WORKED: [Line; 22] = [
+// comes back. An outcome is recorded once, while claims can still be offered. A provider can't end
+// before all its claims are accepted. After a stop each call is refused, also the next stop changes
+// nothing, and a refused job comes back with its outcome.
+static WORKED: [Line; 26] = [
+    Line(One, Counts(0, 0, 0, false, false), "yes", 0),
+    Line(One, Take, "nothing", 0),
     Line(One, Offer(1, 0, "c1"), "at", 0),
     Line(Other, Offer(1, 0, "c1"), "out of turn", 1),
     Line(One, Take, "job", 0),
@@ -100,6 +110,7 @@ static WORKED: [Line; 22] = [
     Line(Other, Take, "job", 2),
     Line(Other, Holds("d1", [0, 0, 0, 0, 0]), "yes", 0),
     Line(One, Finish(400_000), "recorded", 0),
+    Line(One, Finish(400_000), "already", 0),
     Line(Other, Take, "job", 1),
     Line(
         Other,
@@ -115,52 +126,32 @@ static WORKED: [Line; 22] = [
     Line(Other, End(1, 4), "stopped", 0),
     Line(Other, Take, "stopped", 0),
     Line(Other, Finish(400_000), "stopped", 0),
+    Line(Other, Stop, "done", 0),
     Line(Other, Counts(3, 0, 1, false, true), "yes", 0),
 ];
 
-fn worked_script() -> &'static [Line] {
-    &WORKED
-}
-
-fn worked_ending() -> Ending {
-    Ending::Unfinished(b"A10T0 A11A20T2 D0 T1 ")
-}
-
-#[test]
-fn two_passes_take_turns_over_a_spin_lock_though_memory_is_refused(rt: HostRuntime) {
-    let calls = spinning(worked_script(), worked_ending());
-    run(&rt, rt.alloc(), health_plan(), both_files(), None, calls);
+fn worked_script() -> Script {
+    Script {
+        lines: &WORKED,
+        ending: Ending::Unfinished(b"A10T0 A11A20T2 D0 T1 "),
+    }
 }
 
 #[test]
-fn two_passes_take_turns_over_a_ticket_lock_though_memory_is_refused(rt: HostRuntime) {
-    let calls = by_tickets(worked_script(), worked_ending());
-    run(&rt, rt.alloc(), health_plan(), both_files(), None, calls);
+fn two_callers_take_turns_though_memory_is_refused(rt: HostRuntime) {
+    on_each_gate(
+        &rt,
+        rt.alloc(),
+        health_plan(),
+        both_files(),
+        None,
+        worked_script(),
+    );
 }
 
-// An outcome is passed to `finish` twice, while claims can still be offered.
-static TWICE: [Line; 7] = [
-    Line(One, Offer(1, 0, "c1"), "at", 0),
-    Line(One, Offer(1, 0, "c1"), "out of turn", 1),
-    Line(One, Take, "job", 0),
-    Line(One, Holds("c1", [0, 0, 0, 0, 0]), "yes", 0),
-    Line(One, Finish(400_000), "recorded", 0),
-    Line(One, Finish(400_000), "already", 0),
-    Line(One, Counts(1, 0, 1, false, false), "yes", 0),
-];
-
-fn twice_script() -> &'static [Line] {
-    &TWICE
-}
-
-#[test]
-fn an_outcome_is_recorded_once_though_memory_is_refused(rt: HostRuntime) {
-    let calls = spinning(twice_script(), Ending::Unfinished(b"A10T0 D0 "));
-    run(&rt, rt.alloc(), health_plan(), both_files(), None, calls);
-}
-
-// A run of a single claim up to its end. The last end closes the journal.
-static ONLY: [Line; 8] = [
+// A run of a single claim up to its end. The last end closes the journal, and a stop leaves it
+// finished.
+static ONLY: [Line; 10] = [
     Line(One, Offer(1, 0, "c1"), "at", 0),
     Line(One, End(1, 1), "ended", 0),
     Line(One, Counts(1, 1, 0, true, false), "yes", 0),
@@ -169,26 +160,27 @@ static ONLY: [Line; 8] = [
     Line(One, Finish(400_000), "recorded", 0),
     Line(One, Finish(400_000), "already", 0),
     Line(One, Take, "over", 0),
+    Line(Other, Counts(1, 1, 1, true, false), "yes", 0),
+    Line(Other, Stop, "done", 0),
 ];
 
-fn only_script() -> &'static [Line] {
-    &ONLY
-}
-
-fn only_ending() -> Ending {
-    Ending::Finished(b"A10E1 C  T0 D0 ")
-}
-
-#[test]
-fn a_run_of_one_claim_ends_over_a_spin_lock_though_memory_is_refused(rt: HostRuntime) {
-    let calls = spinning(only_script(), only_ending());
-    run(&rt, rt.alloc(), health_plan(), one_file(), None, calls);
+pub fn only_script() -> Script {
+    Script {
+        lines: &ONLY,
+        ending: Ending::Finished(b"A10E1 C  T0 D0 "),
+    }
 }
 
 #[test]
-fn a_run_of_one_claim_ends_over_a_ticket_lock_though_memory_is_refused(rt: HostRuntime) {
-    let calls = by_tickets(only_script(), only_ending());
-    run(&rt, rt.alloc(), health_plan(), one_file(), None, calls);
+fn a_run_of_one_claim_ends_though_memory_is_refused(rt: HostRuntime) {
+    on_each_gate(
+        &rt,
+        rt.alloc(),
+        health_plan(),
+        one_file(),
+        None,
+        only_script(),
+    );
 }
 
 // A provider can end only once, even while another provider has not ended.
@@ -199,15 +191,17 @@ static END: [Line; 4] = [
     Line(One, Counts(1, 1, 0, false, false), "yes", 0),
 ];
 
-fn end_script() -> &'static [Line] {
-    &END
+fn end_script() -> Script {
+    Script {
+        lines: &END,
+        ending: Ending::Unfinished(b"A10E1 "),
+    }
 }
 
 #[test]
-fn a_provider_ends_once(rt: HostRuntime) {
+fn a_provider_ends_once_though_memory_is_refused(rt: HostRuntime) {
     let files = [one_claim(), header()];
-    let calls = spinning(end_script(), Ending::Unfinished(b"A10E1 "));
-    run(&rt, rt.alloc(), health_plan(), &files, None, calls);
+    on_each_gate(&rt, rt.alloc(), health_plan(), &files, None, end_script());
 }
 
 // The claims of one family, which has three members, are decided one after another. Each is settled
@@ -233,18 +227,24 @@ static FAMILY: [Line; 17] = [
     Line(One, Take, "nothing", 0),
 ];
 
-fn family_script() -> &'static [Line] {
-    &FAMILY
+fn family_script() -> Script {
+    Script {
+        lines: &FAMILY,
+        ending: Ending::Unfinished(b"A10A11A12A13T0 T3 D0 T1 D1 T2 "),
+    }
 }
 
 #[test]
 fn claims_of_a_family_take_turns_though_memory_is_refused(rt: HostRuntime) {
     let files = [family_file()];
-    let calls = spinning(
+    on_each_gate(
+        &rt,
+        rt.alloc(),
+        family_plan(),
+        &files,
+        None,
         family_script(),
-        Ending::Unfinished(b"A10A11A12A13T0 T3 D0 T1 D1 T2 "),
     );
-    run(&rt, rt.alloc(), family_plan(), &files, None, calls);
 }
 
 // A journal begins with room for four events, so each of the following scripts ends by a call on a
@@ -257,8 +257,11 @@ static FULL_END: [Line; 5] = [
     Line(Other, End(3, 0), "ended", 0),
 ];
 
-fn full_end_script() -> &'static [Line] {
-    &FULL_END
+fn full_end_script() -> Script {
+    Script {
+        lines: &FULL_END,
+        ending: Ending::Unfinished(b"A10A11A20T0 E3 "),
+    }
 }
 
 // A claim that is taken enlarges it.
@@ -270,8 +273,11 @@ static FULL_TAKE: [Line; 5] = [
     Line(Other, Take, "job", 2),
 ];
 
-fn full_take_script() -> &'static [Line] {
-    &FULL_TAKE
+fn full_take_script() -> Script {
+    Script {
+        lines: &FULL_TAKE,
+        ending: Ending::Unfinished(b"A10A11A20T0 T2 "),
+    }
 }
 
 // A call that finds no claim ready enlarges it, too.
@@ -283,27 +289,20 @@ static FULL_NOTHING: [Line; 5] = [
     Line(Other, Take, "nothing", 0),
 ];
 
-fn full_nothing_script() -> &'static [Line] {
-    &FULL_NOTHING
+fn full_nothing_script() -> Script {
+    Script {
+        lines: &FULL_NOTHING,
+        ending: Ending::Unfinished(b"A10A11A12T0 "),
+    }
 }
 
 #[test]
-fn an_end_enlarges_a_full_journal_though_memory_is_refused(rt: HostRuntime) {
+fn calls_enlarge_a_full_journal_though_memory_is_refused(rt: HostRuntime) {
     let files = [first_file(), second_file(), header()];
-    let calls = spinning(full_end_script(), Ending::Unfinished(b"A10A11A20T0 E3 "));
-    run(&rt, rt.alloc(), health_plan(), &files, None, calls);
-}
-
-#[test]
-fn a_taken_claim_enlarges_a_full_journal_though_memory_is_refused(rt: HostRuntime) {
-    let calls = spinning(full_take_script(), Ending::Unfinished(b"A10A11A20T0 T2 "));
-    run(&rt, rt.alloc(), health_plan(), both_files(), None, calls);
-}
-
-#[test]
-fn no_ready_claim_enlarges_a_full_journal_though_memory_is_refused(rt: HostRuntime) {
-    let calls = spinning(full_nothing_script(), Ending::Unfinished(b"A10A11A12T0 "));
-    run(&rt, rt.alloc(), health_plan(), both_files(), None, calls);
+    for script in [full_end_script(), full_take_script(), full_nothing_script()] {
+        let calls = script.on(Lock::Missing);
+        run(&rt, rt.alloc(), health_plan(), &files, None, calls);
+    }
 }
 
 // Without a ticket each call comes back with what was given to it.
@@ -315,10 +314,6 @@ static NO_TICKET: [Line; 5] = [
     Line(One, Counts(0, 0, 0, false, false), "worn", 0),
 ];
 
-fn no_ticket_script() -> &'static [Line] {
-    &NO_TICKET
-}
-
 // The last ticket serves to accept the first claim.
 static ONE_TICKET: [Line; 6] = [
     Line(One, Offer(1, 0, "c1"), "at", 0),
@@ -329,10 +324,6 @@ static ONE_TICKET: [Line; 6] = [
     Line(One, Counts(1, 0, 0, false, false), "worn", 0),
 ];
 
-fn one_ticket_script() -> &'static [Line] {
-    &ONE_TICKET
-}
-
 // The last ticket serves to take the first claim.
 static TWO_TICKETS: [Line; 3] = [
     Line(One, Offer(1, 0, "c1"), "at", 0),
@@ -340,39 +331,22 @@ static TWO_TICKETS: [Line; 3] = [
     Line(One, Finish(400_000), "worn", 0),
 ];
 
-fn two_tickets_script() -> &'static [Line] {
-    &TWO_TICKETS
+// The play of a script on a gate in a ticket lock that has this number of tickets left.
+fn with_left(left: u64, lines: &'static [Line]) -> Calls {
+    let ending = Ending::Worn;
+    Script { lines, ending }.on(Lock::Tickets(u64::MAX.saturating_sub(left)))
 }
 
 #[test]
 fn no_call_without_a_ticket(rt: HostRuntime) {
-    for calls in [
-        with_left(0, no_ticket_script()),
-        with_left(1, one_ticket_script()),
-        with_left(2, two_tickets_script()),
-    ] {
+    let plays = [
+        with_left(0, &NO_TICKET),
+        with_left(1, &ONE_TICKET),
+        with_left(2, &TWO_TICKETS),
+    ];
+    for calls in plays {
         run(&rt, rt.alloc(), health_plan(), both_files(), None, calls);
     }
-}
-
-// The calls of a host's own gate.
-static OWN: [Line; 8] = [
-    Line(One, Offer(1, 0, "c1"), "at", 0),
-    Line(One, End(1, 1), "ended", 0),
-    Line(One, Take, "job", 0),
-    Line(One, Holds("c1", [0, 0, 0, 0, 0]), "yes", 0),
-    Line(One, Finish(400_000), "recorded", 0),
-    Line(One, Finish(400_000), "already", 0),
-    Line(Other, Counts(1, 1, 1, true, false), "yes", 0),
-    Line(One, Stop, "done", 0),
-];
-
-pub fn own_script() -> &'static [Line] {
-    &OWN
-}
-
-pub fn own_ending() -> Ending {
-    only_ending()
 }
 
 // Before two passes meet, one of them has offered a claim.

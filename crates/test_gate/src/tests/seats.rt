@@ -1,6 +1,6 @@
 //! A caller of a gate, and each of its calls. A job that is passed to `finish` is copied before, so
 //! that it can be passed once more.
-ghost use Rattle.std.specs.Prelude.{◌≡◌, IfOk};
+ghost use Rattle.std.specs.Prelude.{◌≡◌, IfOk, Some};
 ghost use Rattle.journal.specs.Settled.{outcome_of};
 ghost use Rattle.test_gate.specs.Words.{IsAtWork, IsCaller, IsSeated};
 
@@ -167,8 +167,8 @@ pub fn decide_job(rt: &impl Abort, alloc: Global, terms: &Terms, job: &Job) -> B
     }
 }
 
-// Copies a job. If memory runs out, the call is repeated once.
-fn copy_of(rt: &impl Abort, alloc: Global, job: &Job) -> Job
+/// Copies a job. If memory runs out, the call is repeated once.
+pub fn copy_of(rt: &impl Abort, alloc: Global, job: &Job) -> Job
     ensures { result ≡ job.now }
 {
     match job.again(alloc) {
@@ -271,21 +271,14 @@ pub fn ask_counts<G: Gate>(
     }
 }
 
-// Finishes the caller's job.
-fn finish_held<G: Gate>(
-    rt: &(impl Abort + Wait),
-    alloc: Global,
-    terms: &Terms,
-    gate: &G,
-    seat: Seat<G::Pass>,
-    paid: i64,
-) -> Turn<G::Pass>
-    requires { IsSeated (G.has_pass gate.now) G.known terms.now seat.pass seat.job }
-    ensures { IsSeated (G.has_pass gate.now) G.known terms.now result.seat.pass result.seat.job }
+/// Returns the job of a caller that has one.
+pub fn job_of(rt: &impl Abort, job: Option<Job>) -> Job
+    ensures { job ≡ Some result }
 {
-    let Seat { pass, job } = seat;
-    let Some(job) = job else { fail(rt, "a job") };
-    finish(rt, alloc, terms, gate, pass, job, paid)
+    match job {
+        Some(job) => job,
+        None => fail(rt, "a job"),
+    }
 }
 
 /// Makes a call.
@@ -306,7 +299,10 @@ pub fn make<G: Gate>(
         }
         Call::End(provider, count) => end(rt, alloc, terms, gate, seat, provider, count),
         Call::Take => take(rt, terms, gate, seat),
-        Call::Finish(paid) => finish_held(rt, alloc, terms, gate, seat, paid),
+        Call::Finish(paid) => {
+            let Seat { pass, job } = seat;
+            finish(rt, alloc, terms, gate, pass, job_of(rt, job), paid)
+        }
         Call::Stop => stop(rt, terms, gate, seat),
         Call::Counts(accepted, ended, decided, closed, stopped) => {
             let wanted = Counts {

@@ -64,23 +64,17 @@ impl Book for Entries {
     }
 }
 
-// Makes a spin lock that protects an empty list. The call is repeated if one allocation is refused.
+// Makes a spin lock that protects an empty list.
 fn spin_lock(rt: &impl Abort, alloc: Global) -> (SpinLock<Entries>, SpinPass<Entries>)
     ensures { IsSpinPassOf result.0 result.1 }
 {
-    match SpinLock::new(alloc, Entries::new(alloc)) {
-        Ok(made) => made,
-        Err(_) => SpinLock::new(alloc, Entries::new(alloc)).expect(rt, "memory for a lock"),
-    }
+    SpinLock::new(alloc, Entries::new(alloc)).expect(rt, "memory for a lock")
 }
 
 fn ticket_lock(rt: &impl Abort, alloc: Global) -> (TicketLock<Entries>, Pass<Entries>)
     ensures { IsPassOf result.0 result.1 }
 {
-    match TicketLock::new(alloc, Entries::new(alloc)) {
-        Ok(made) => made,
-        Err(_) => TicketLock::new(alloc, Entries::new(alloc)).expect(rt, "memory for a lock"),
-    }
+    TicketLock::new(alloc, Entries::new(alloc)).expect(rt, "memory for a lock")
 }
 
 // Makes a ticket lock with `first` as its first ticket.
@@ -256,28 +250,6 @@ fn tickets_go_on_after_a_retired_holder(rt: HostRuntime) {
     draw_the_second_ticket(&rt, &lock, b);
 }
 
-fn make_a_spin_lock<R: Wait + Abort>(rt: &R, alloc: Global) {
-    let (lock, pass) = spin_lock(rt, alloc);
-    let Ok((value, holder)) = lock.lock(rt, pass) else {
-        panic!(rt; "a new spin lock is worn");
-    };
-    assert!(rt; lock.retire(holder, value).entries().is_empty());
-}
-
-fn make_a_ticket_lock<R: Wait + Abort>(rt: &R, alloc: Global) {
-    let (lock, pass) = ticket_lock(rt, alloc);
-    let Ok((value, holder)) = lock.lock(rt, pass) else {
-        panic!(rt; "a new ticket lock is worn");
-    };
-    assert!(rt; lock.retire(holder, value).entries().is_empty());
-}
-
-#[test]
-fn locks_are_made_though_memory_is_refused(rt: HostRuntime) {
-    make_a_spin_lock(&rt, rt.alloc());
-    make_a_ticket_lock(&rt, rt.alloc());
-}
-
 // Appends each entry of the thread in a critical section of its own.
 fn append_all<S: Section, R: Wait>(
     rt: &R,
@@ -374,44 +346,34 @@ fn assert_each_in_order<A: Abort>(rt: &A, entries: &[Entry], threads: u64, count
     }
 }
 
-fn append_through_a_spin_lock<R: Threads + Wait + Abort + Sync>(
+// Appends 10,000 entries through a lock.
+fn append_through<S: Section + Sync, R: Threads + Wait + Abort + Sync>(
     rt: &R,
-    alloc: Global,
+    lock: &S,
+    pass: S::Pass,
     threads: u64,
     count: u64,
-) {
-    let (lock, pass) = spin_lock(rt, alloc);
-    let Ok(value) = left_by_threads(rt, &lock, pass, threads, count) else {
-        panic!(rt; "a spin lock is worn");
+)
+where
+    S::Value: Book + Send + Sync + Drop,
+    S::Pass: Send + Drop,
+    requires { S.has_pass lock.now pass }
+{
+    let Ok(value) = left_by_threads(rt, lock, pass, threads, count) else {
+        panic!(rt; "a new lock is worn");
     };
     assert!(rt; value.entries().len() == 10_000);
     assert_each_in_order(rt, value.entries(), threads, count);
 }
 
 #[test]
-fn threads_append_through_a_spin_lock(rt: HostRuntime) {
-    append_through_a_spin_lock(&rt, rt.alloc(), 2, 5000);
-    append_through_a_spin_lock(&rt, rt.alloc(), 8, 1250);
-}
-
-fn append_through_a_ticket_lock<R: Threads + Wait + Abort + Sync>(
-    rt: &R,
-    alloc: Global,
-    threads: u64,
-    count: u64,
-) {
-    let (lock, pass) = ticket_lock(rt, alloc);
-    let Ok(value) = left_by_threads(rt, &lock, pass, threads, count) else {
-        panic!(rt; "a new ticket lock is worn");
-    };
-    assert!(rt; value.entries().len() == 10_000);
-    assert_each_in_order(rt, value.entries(), threads, count);
-}
-
-#[test]
-fn threads_append_through_a_ticket_lock(rt: HostRuntime) {
-    append_through_a_ticket_lock(&rt, rt.alloc(), 2, 5000);
-    append_through_a_ticket_lock(&rt, rt.alloc(), 8, 1250);
+fn threads_append_through_each_lock(rt: HostRuntime) {
+    for (threads, count) in [(2, 5_000), (8, 1_250)] {
+        let (lock, pass) = spin_lock(&rt, rt.alloc());
+        append_through(&rt, &lock, pass, threads, count);
+        let (lock, pass) = ticket_lock(&rt, rt.alloc());
+        append_through(&rt, &lock, pass, threads, count);
+    }
 }
 
 #[test]

@@ -1,4 +1,4 @@
-//! Plans and what the commands write for them. A function returns each text, so that its callers are
+//! Plans and what the commands write for them, and balances. A function returns each text, so that its callers are
 //! proved without the text.
 
 const CROSSED: &[u8] = br#"version = 1
@@ -37,33 +37,22 @@ pub fn gaps() -> &'static str {
     "gap table 1: 1\ngap table 1: >5\ngaps 2 overlaps 0\n"
 }
 
-const SOME_ERRORS: &[u8] = br#"version = 1
+const NO_ROLES: &str = r#"version = 1
 fields = [{name = "x", kind = "number"}]
 [[tables]]
-hit = "F"
 inputs = [{name = "x"}]
-outputs = [{name = "a", kind = "number"}]
-rules = [{when = ['<=5'], then = ['1']}, {when = ['5'], then = ['2']}]
-[[tables]]
-hit = "A"
-inputs = [{name = "x"}]
-outputs = [{name = "b", kind = "number", default = '0'}]
-rules = [{when = ['<=5'], then = ['1']}, {when = ['5'], then = ['2']}]
-[[tables]]
-hit = "C"
-inputs = [{name = "x"}]
-outputs = [{name = "c", kind = "number"}]
-rules = [{when = ['<=5'], then = ['1']}, {when = ['5'], then = ['2']}]
+outputs = [{name = "y", kind = "number"}]
+rules = [{when = ['[0..10['], then = ['1']}, {when = ['>=10'], then = ['2.5']}]
 "#;
 
-/// Three tables, each with a gap and an overlap. The first has `F` and no default, so its gap is an
-/// error. The second has `A`, a default and different entries, so its overlap is an error. The
-/// third has `C`, under which neither is an error.
-pub fn some_errors() -> &'static [u8] {
-    SOME_ERRORS
+/// A plan without roles, which settles no claims.
+pub fn no_roles() -> &'static str {
+    NO_ROLES
 }
 
-/// The gaps and overlaps of this plan that are errors.
-pub fn errors() -> &'static str {
-    "gap table 1: >5\noverlap table 2: rules 1 2\ngaps 1 overlaps 1\n"
+const MEMBER_TWICE: &[u8] = b"member,met,oop,paid\nM1,50.00,10.00,5.00\nM1,50.00,10.00,5.00\n";
+
+/// Balances that name a member twice.
+pub fn member_twice() -> &'static [u8] {
+    MEMBER_TWICE
 }

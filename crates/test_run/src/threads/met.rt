@@ -13,7 +13,7 @@ use std::process::Abort;
 use std::sync::Wait;
 use std::thread;
 use std::thread::Threads;
-use turn_lock::{Section, SpinLock, TicketLock};
+use turn_lock::{Section, TicketLock};
 
 /// The result of a run on a watched gate.
 #[derive(Clone, Copy)]
@@ -229,19 +229,6 @@ fn check_report<'t>(
 pub fn meets<R: Threads + Wait + Abort + Sync>(rt: &R, alloc: Global, terms: &Terms, case: &Case) {
     let state = GateState::new(alloc, terms).expect(rt, "a gate");
     let (lock, pass) = TicketLock::new_at(alloc, state, case.first_ticket).expect(rt, "a lock");
-    let state = run_watched(rt, alloc, terms, case, lock, pass);
-    check_report(rt, alloc, terms, state, case.report);
-}
-
-/// Runs with a spin lock.
-pub fn meets_spinning<R: Threads + Wait + Abort + Sync>(
-    rt: &R,
-    alloc: Global,
-    terms: &Terms,
-    case: &Case,
-) {
-    let state = GateState::new(alloc, terms).expect(rt, "a gate");
-    let (lock, pass) = SpinLock::new(alloc, state).expect(rt, "a lock");
     let state = run_watched(rt, alloc, terms, case, lock, pass);
     check_report(rt, alloc, terms, state, case.report);
 }

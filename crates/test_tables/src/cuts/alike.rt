@@ -5,12 +5,9 @@ ghost use Rattle.cutplan.specs.Masks.{IsColumnNumber};
 ghost use Rattle.cutplan.specs.Numbered.{IsTableNumber};
 
 use super::cut_of;
-use super::plans::{
-    allowed_codes, chain, codes, days, disjoint_plan, flag_and_code, ranked_plan, stretches,
-    three_rules,
-};
+use super::plans::{allowed_codes, chain, codes, days, disjoint_plan, flag_and_code, stretches};
 use super::wide_plans::{wide_codes, wide_days, wide_numbers};
-use crate::answers::{give, inputs_of, is_text, plan_of, write_line};
+use crate::answers::{give, inputs_of, plan_of, write_line};
 use crate::ending::expects;
 use cutplan::{CutPlan, RuleMask};
 use std::alloc::{AllocError, Global};
@@ -23,11 +20,6 @@ const FIRST: usize = 4;
 
 /// Literals of a field.
 type Literals = &'static [&'static str];
-
-/// No literals, for a plan without a second field.
-fn none() -> Literals {
-    &[""]
-}
 
 /// The indices of the billed amount and of the deductible met among the names of the health plan.
 const BILLED: usize = 3;
@@ -109,19 +101,10 @@ fn is_same(text: Vec<u8>, other: Vec<u8>) -> bool {
     text.as_slice() == other.as_slice()
 }
 
-/// Requires the same answers for each of these literals of the first field and each of the second.
-fn check_each(
-    rt: &impl Abort,
-    alloc: Global,
-    plan: &Plan,
-    cut: &CutPlan,
-    given: (&[&str], &[&str]),
-) {
-    for first in given.0 {
-        for second in given.1 {
-            let given = [(FIRST, *first), (FIRST + 1, *second)];
-            check_at(rt, alloc, plan, cut, &given);
-        }
+/// Requires the same answers for each of these literals of the only field.
+fn check_each(rt: &impl Abort, alloc: Global, plan: &Plan, cut: &CutPlan, literals: &[&str]) {
+    for literal in literals {
+        check_at(rt, alloc, plan, cut, &[(FIRST, *literal)]);
     }
 }
 
@@ -129,13 +112,10 @@ fn check_each(
 /// plan makes the proof much longer.
 #[derive(Clone, Copy)]
 enum Tried<'a> {
-    /// The answers are the same for each of these literals of the first field and each of the
-    /// second.
-    Alike(&'a [&'a str], &'a [&'a str]),
+    /// The answers are the same for each of these literals of the only field.
+    Alike(&'a [&'a str]),
     /// The masks have the matching rules for each of these literals of the first field.
     Matching(&'a [&'a str]),
-    /// The compiled plan has this answer for this literal of the first field.
-    Answer(&'a str, &'a str),
     /// The answers are the same for each code and amount of the health plan.
     Remarks,
     /// The masks of the only column of two rules begin with these words.
@@ -147,9 +127,8 @@ enum Tried<'a> {
 fn try_cut(rt: &impl Abort, alloc: Global, plan: &Plan, tried: Tried<'_>) {
     let cut = cut_of(rt, alloc, plan);
     match tried {
-        Tried::Alike(firsts, seconds) => check_each(rt, alloc, plan, &cut, (firsts, seconds)),
+        Tried::Alike(literals) => check_each(rt, alloc, plan, &cut, literals),
         Tried::Matching(literals) => check_each_matching(rt, alloc, plan, &cut, literals),
-        Tried::Answer(literal, answer) => check_answer(rt, alloc, &cut, literal, answer),
         Tried::Remarks => check_remarks(rt, alloc, plan, &cut),
         Tried::Masks(words) => check_masks(rt, plan, &cut, words),
         Tried::Classes(wanted) => check_classes(rt, alloc, &cut, wanted),
@@ -159,12 +138,6 @@ fn try_cut(rt: &impl Abort, alloc: Global, plan: &Plan, tried: Tried<'_>) {
 fn try_plan(rt: &impl Abort, alloc: Global, text: &[u8], tried: Tried<'_>) {
     let plan = plan_of(rt, alloc, text);
     try_cut(rt, alloc, &plan, tried);
-}
-
-/// Requires that the plan of the text and its compiled plan have the same answers for these
-/// literals.
-fn check(rt: &impl Abort, alloc: Global, text: &[u8], firsts: &[&str], seconds: &[&str]) {
-    try_plan(rt, alloc, text, Tried::Alike(firsts, seconds));
 }
 
 fn around_apart() -> Literals {
@@ -181,44 +154,8 @@ fn around_apart() -> Literals {
     ]
 }
 
-fn check_answer(rt: &impl Abort, alloc: Global, cut: &CutPlan, literal: &str, answer: &str) {
-    let answers = answer_text(rt, alloc, cut, &[(FIRST, literal)]);
-    expects(rt, is_text(answers, answer), answer);
-}
-
-#[test]
-fn two_of_three_rules_answer_by_masks(rt: HostRuntime) {
-    try_plan(
-        &rt,
-        rt.alloc(),
-        three_rules(),
-        Tried::Answer("2", "list 1 1\n"),
-    );
-}
-
 fn of_codes() -> Literals {
     &["\"A\"", "\"B\"", "\"AB\"", "\"\""]
-}
-
-fn of_allowed_codes() -> Literals {
-    &["\"A\"", "\"B\"", "\"C\""]
-}
-
-fn flags() -> Literals {
-    &["false", "true"]
-}
-
-#[test]
-fn texts_and_flags_are_valued_alike(rt: HostRuntime) {
-    check(&rt, rt.alloc(), codes(), of_codes(), none());
-    check(&rt, rt.alloc(), allowed_codes(), of_allowed_codes(), none());
-    check(
-        &rt,
-        rt.alloc(),
-        flag_and_code(),
-        flags(),
-        of_allowed_codes(),
-    );
 }
 
 fn around_days() -> Literals {
@@ -233,38 +170,14 @@ fn around_days() -> Literals {
     ]
 }
 
-#[test]
-fn days_are_valued_alike(rt: HostRuntime) {
-    check(&rt, rt.alloc(), days(), around_days(), none());
-}
-
-fn around_chain() -> Literals {
-    &[
-        "0.9999", "1", "1.0001", "1.9999", "2", "2.0001", "2.5", "2.9999", "3",
-    ]
-}
-
-#[test]
-fn chained_tables_are_valued_alike(rt: HostRuntime) {
-    check(&rt, rt.alloc(), chain(), around_chain(), none());
-}
-
-fn around_ranked() -> Literals {
-    &["0.9999", "1", "1.9999", "2", "2.9999", "3", "4"]
-}
-
-#[test]
-fn ranked_rules_are_valued_alike(rt: HostRuntime) {
-    check(&rt, rt.alloc(), ranked_plan(), around_ranked(), none());
-}
-
 fn around_stretches() -> Literals {
     &["-0.0001", "0", "0.0001", "9.9999", "10", "10.0001"]
 }
 
 #[test]
 fn stretches_side_by_side_are_valued_alike(rt: HostRuntime) {
-    check(&rt, rt.alloc(), stretches(), around_stretches(), none());
+    let literals = Tried::Alike(around_stretches());
+    try_plan(&rt, rt.alloc(), stretches(), literals);
 }
 
 /// Requires that the health plan and its compiled plan have the same answers for each code and

@@ -101,22 +101,6 @@ rules = [
 "#
 }
 
-/// Three rules, of which the first and the last hold for 2.
-pub fn three_rules() -> &'static [u8] {
-    br#"version = 1
-fields = [{name = "x", kind = "number"}]
-[[tables]]
-hit = "R"
-inputs = [{name = "x"}]
-outputs = [{name = "y", kind = "number"}]
-rules = [
-  {when = ['<3'], then = ['1']},
-  {when = ['>2'], then = ['1']},
-  {when = ['2'], then = ['1']},
-]
-"#
-}
-
 /// A flag and a text, with two gaps and one overlap.
 pub fn flag_and_code() -> &'static [u8] {
     br#"version = 1
@@ -171,29 +155,6 @@ rules = [
   {when = ['1', '-'], then = ['1']},
   {when = ['not(0)', '<2.5'], then = ['2']},
 ]
-"#
-}
-
-/// Three tables: one takes the highest match, one lists the matches in decreasing priority, and one
-/// requires that they agree.
-pub fn ranked_plan() -> &'static [u8] {
-    br#"version = 1
-fields = [{name = "x", kind = "number"}]
-[[tables]]
-hit = "P"
-inputs = [{name = "x"}]
-outputs = [{name = "level", kind = "text", priority = ['"HIGH"', '"LOW"'], default = '"NONE"'}]
-rules = [{when = ['>=1'], then = ['"LOW"']}, {when = ['>=2'], then = ['"HIGH"']}, {when = ['>=3'], then = ['"LOW"']}]
-[[tables]]
-hit = "O"
-inputs = [{name = "x"}]
-outputs = [{name = "note", kind = "text", priority = ['"B"', '"A"']}]
-rules = [{when = ['>=1'], then = ['"A"']}, {when = ['>=2'], then = ['"B"']}, {when = ['>=3'], then = ['"A"']}]
-[[tables]]
-hit = "A"
-inputs = [{name = "x"}]
-outputs = [{name = "y", kind = "number", default = '0'}]
-rules = [{when = ['>=1'], then = ['1']}, {when = ['>=2'], then = ['1']}, {when = ['>=4'], then = ['2']}]
 "#
 }
 
