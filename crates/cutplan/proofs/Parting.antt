@@ -77,7 +77,7 @@ named_count t (c ∷ cs) all =
     ] refl
 
 -- each value of the kind lies in one region, counting also those without allowed values
-stretch_count : (kind : Kind) (lits : List Value) (v : Value) → has_kind kind v ≡ true → count_by (λ r. is_in r v) (stretches kind (sort_values (filter (has_kind kind) lits))) ≡ 1
+pub stretch_count : (kind : Kind) (lits : List Value) (v : Value) → has_kind kind v ≡ true → count_by (λ r. is_in r v) (stretches kind (sort_values (filter (has_kind kind) lits))) ≡ 1
 stretch_count kinds.Number lits v kinded =
     let a = number_is v kinded in
     let cuts = number_cuts lits in

@@ -62,7 +62,9 @@ pub use law::{
     regions_hold_values, regions_part_values,
 };
 pub use mask::RuleMask;
-pub use region::Region;
+pub use partition::Partition;
+pub use region::{Region, holds_in};
+pub use regions_from_cuts::has_value;
 pub use table_check::{TableCheck, check_table};
 pub use violation_law::errors_are_faults;
 pub use violations::{gap_is_error, overlap_is_error};

@@ -113,7 +113,8 @@ fn is_allowed(values: &Option<Cell>, region: &Region) -> bool
     }
 }
 
-fn has_value(region: &Region) -> bool
+/// Returns whether the region contains a value.
+pub fn has_value(region: &Region) -> bool
     ensures { result ≡ has_value region.now }
 {
     match region {

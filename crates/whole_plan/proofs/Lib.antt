@@ -1,0 +1,5 @@
+pub mod Lists
+pub mod Joining
+pub mod Money
+pub mod Values
+pub mod Evaluating

@@ -1,0 +1,4 @@
+pub mod Amounts
+pub mod Zones
+pub mod Boxes
+pub mod Pending
