@@ -42,6 +42,14 @@ same_given terms seen old new same given h = record {
 pub stays_between : (terms : TermsParts) (seen : GateParts) (old new : OrderedParts) → new ≡ old → IsAtClaim terms seen old → IsBetween terms seen old new
 stays_between terms seen old new same h = record { at = subst (λ claims. IsAtClaim terms seen claims) (sym same) h; read = ap (λ (claims : OrderedParts). claims.read) same }
 
+-- the acceptor remains between two claims in a later state of the gate
+pub still_at : (terms : TermsParts) (seen after : GateParts) (claims : OrderedParts) → LeadsTo seen after → IsAtClaim terms seen claims → IsAtClaim terms after claims
+still_at terms seen after claims leads h = record {
+  seen_terms = leads.terms ∙ h.seen_terms;
+  of_terms = h.of_terms;
+  accepted = λ provider. omega (arith, h.accepted provider, no_fewer seen.journal after.journal provider leads.journal);
+}
+
 -- the readers go on after the claims of the acceptor
 pub joined_after : (terms : TermsParts) (seen : GateParts) (old rest : OrderedParts) (from read : ReaderParts) → AreJoined old from → read.terms ≡ from.terms → read.taken ≡ from.taken
     → old.terms ≡ terms → IsBetween terms seen old rest → AreJoined rest read

@@ -5,6 +5,7 @@ ghost use Rattle.std.specs.Thread.{IsSync};
 ghost use Rattle.crew.specs.Accepting.{AreOffered, ArePast, HasOfferedAll, IsAcceptorStep, IsAtClaim};
 ghost use Rattle.crew.specs.Passes.{GoesOn, LeavesWith};
 
+use crate::fetching::Fetching;
 use crate::offering::{end, offer};
 use crate::shared::{Exit, Onward, Shared};
 use claim_gate::Gate;
@@ -14,6 +15,10 @@ use ordered_claims::{ClaimQueues, ClaimReaders, NextClaim, OrderedClaims};
 use std::alloc::AllocError;
 use std::sync::Wait;
 use std::thread::{Threads, available_parallelism, join};
+
+/// The maximum number of claims for which the gate prefetches at once: about the number of reads that a processor makes in
+/// parallel.
+const FETCH_LIMIT: usize = 12;
 
 /// The next step of the acceptor.
 enum AcceptorStep {
@@ -39,8 +44,9 @@ enum Offered<'t> {
 
 /// Offers the claims of all files in the order of the terms, and ends all providers after the last one. In an order a claim
 /// is offered only after all claims before it are accepted, so one thread offers them all, and others read ahead of it.
-pub(crate) fn run_acceptor<R: Threads + Wait + Sync, G: Gate>(
+pub(crate) fn run_acceptor<R: Threads + Wait + Sync, G: Gate, F: Fetching<G>>(
     shared: &Shared<R, G>,
+    fetching: &F,
     mut pass: G::Pass,
 ) -> Result<G::Pass, Exit<G::Pass>>
     requires own { G.has_pass shared.now.gate.now pass }
@@ -67,7 +73,7 @@ pub(crate) fn run_acceptor<R: Threads + Wait + Sync, G: Gate>(
                 pass,
             });
         };
-        let (read, onward) = offer_while_reading(shared, pass, queues, readers, threads);
+        let (read, onward) = offer_while_reading(shared, fetching, pass, queues, readers, threads);
         let onward = match onward {
             Ok(onward) => onward,
             Err(exit) => return Err(exit),
@@ -93,8 +99,9 @@ fn reader_count<R: Threads>(rt: &R) -> usize
 }
 
 // Offers the claims that are read, while other threads read more. Where no thread can be started, this one reads afterwards.
-fn offer_while_reading<'t, R: Threads + Wait + Sync, G: Gate>(
+fn offer_while_reading<'t, R: Threads + Wait + Sync, G: Gate, F: Fetching<G>>(
     shared: &Shared<R, G>,
+    fetching: &F,
     pass: G::Pass,
     queues: ClaimQueues<'t>,
     readers: ClaimReaders<'t>,
@@ -133,13 +140,14 @@ fn offer_while_reading<'t, R: Threads + Wait + Sync, G: Gate>(
                 queues.entry r.value) }
             ensures leaves { IfErr result
                 (LeavesWith (G.has_pass shared.entry.now.gate.now) G.is_worn G.known pass) }
-        { offer_turns(shared, pass, queues) },
+        { offer_turns(shared, fetching, pass, queues) },
     )
 }
 
 // Offers the claims that are read, turn after turn.
-fn offer_turns<'t, R: Wait, G: Gate>(
+fn offer_turns<'t, R: Wait, G: Gate, F: Fetching<G>>(
     shared: &Shared<R, G>,
+    fetching: &F,
     mut pass: G::Pass,
     mut claims: ClaimQueues<'t>,
 ) -> Result<Onward<Offered<'t>, G::Pass>, Exit<G::Pass>>
@@ -153,7 +161,7 @@ fn offer_turns<'t, R: Wait, G: Gate>(
         (LeavesWith (G.has_pass shared.now.gate.now) G.is_worn G.known pass) }
 {
     'turns: loop {
-        let onward = match offer_turn(shared, pass, &mut claims) {
+        let onward = match offer_turn(shared, fetching, pass, &mut claims) {
             Ok(onward) => onward,
             Err(exit) => return Err(exit),
         };
@@ -177,8 +185,9 @@ fn offer_turns<'t, R: Wait, G: Gate>(
 }
 
 // Offers up to `OFFERS_LIMIT` claims in one turn.
-fn offer_turn<R: Wait, G: Gate>(
+fn offer_turn<R: Wait, G: Gate, F: Fetching<G>>(
     shared: &Shared<R, G>,
+    fetching: &F,
     mut pass: G::Pass,
     claims: &mut ClaimQueues<'_>,
 ) -> Result<Onward<AcceptorStep, G::Pass>, Exit<G::Pass>>
@@ -192,7 +201,12 @@ fn offer_turn<R: Wait, G: Gate>(
         (LeavesWith (G.has_pass shared.now.gate.now) G.is_worn G.known pass) }
 {
     let turn = shared.turns.begin_offers(shared.rt);
+    let mut fetched = 0;
     'offers: for number in 0..OFFERS_LIMIT {
+        pass = match fetch_upcoming(shared, fetching, pass, claims, &mut fetched) {
+            Ok(pass) => pass,
+            Err(exit) => return Err(exit),
+        };
         let onward = match offer_next(shared, pass, claims, &turn) {
             Ok(onward) => onward,
             Err(exit) => return Err(exit),
@@ -210,6 +224,28 @@ fn offer_turn<R: Wait, G: Gate>(
         value: AcceptorStep::NextClaim,
         pass,
     })
+}
+
+// Prefetches for the next claims, unless the last `fetched` of those that it has prefetched for are not offered yet.
+fn fetch_upcoming<R: Wait, G: Gate, F: Fetching<G>>(
+    shared: &Shared<R, G>,
+    fetching: &F,
+    pass: G::Pass,
+    claims: &ClaimQueues<'_>,
+    fetched: &mut usize,
+) -> Result<G::Pass, Exit<G::Pass>>
+    requires own { G.has_pass shared.now.gate.now pass }
+    ensures goes_on { IfOk result (GoesOn (G.has_pass shared.now.gate.now) G.known pass) }
+    ensures leaves { IfErr result
+        (LeavesWith (G.has_pass shared.now.gate.now) G.is_worn G.known pass) }
+{
+    if *fetched > 0 {
+        *fetched -= 1;
+        return Ok(pass);
+    }
+    let upcoming = claims.upcoming(FETCH_LIMIT);
+    *fetched = upcoming.len().saturating_sub(1);
+    fetching.fetch(shared.rt, shared.gate, pass, upcoming)
 }
 
 // Offers the next claim in the order, if it is read. Where it is out of turn, another caller of the gate has offered it already,

@@ -8,6 +8,7 @@ ghost use Rattle.faults.specs.declared.run_fault.RunFault.TheVariants.{OutOfMemo
 ghost use Rattle.journal.specs.declared.order.Order.TheVariants.{Any};
 
 use crate::acceptor::run_acceptor;
+use crate::fetching::Fetching;
 use crate::offering::{end, offer};
 use crate::shared::{Exit, Onward, Shared};
 use claim_gate::{BoxedClaim, Gate, Offer, Order, Terms};
@@ -53,8 +54,9 @@ enum Record {
 
 /// Does the work of the intake with this number, from 0, which offers the claims of its provider's file. Where the terms ask
 /// for an order, intake 0 is the acceptor, which offers the claims of all files, and the others do nothing.
-pub(crate) fn run_intake_part<R: Threads + Wait + Sync, G: Gate>(
+pub(crate) fn run_intake_part<R: Threads + Wait + Sync, G: Gate, F: Fetching<G>>(
     shared: &Shared<R, G>,
+    fetching: &F,
     pass: G::Pass,
     number: usize,
 ) -> Result<G::Pass, Exit<G::Pass>>
@@ -71,7 +73,7 @@ pub(crate) fn run_intake_part<R: Threads + Wait + Sync, G: Gate>(
         if number != 0 {
             return Ok(pass);
         }
-        return run_acceptor(shared, pass);
+        return run_acceptor(shared, fetching, pass);
     };
     run_intake(shared, pass, number + 1)
 }

@@ -7,11 +7,12 @@
 //! them. `run_with` uses a gate of the caller's.
 //!
 //! Begin with `threads.rt`, which has the contracts of `run` and `run_with`; `intake.rt`, `acceptor.rt` and `worker.rt` have
-//! the work of the threads, `offering.rt` has the calls by which claims are accepted, and `shared.rt` has what all threads of a
-//! run use.
+//! the work of the threads, `offering.rt` has the calls by which claims are accepted, `fetching.rt` says which runs prefetch,
+//! and `shared.rt` has what all threads of a run use.
 #![tactic(auto)]
 
 mod acceptor;
+mod fetching;
 mod intake;
 mod least_fault;
 mod offering;

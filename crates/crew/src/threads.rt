@@ -11,12 +11,15 @@ ghost use Rattle.crew.specs.Passes.{GoesOn, HasEnded, LeavesWith};
 ghost use Rattle.crew.specs.Workers.{IsWorkerCount};
 ghost use Rattle.faults.specs.declared.run_fault.RunFault.TheVariants.{Workers, Stopped};
 
+use crate::fetching::{Fetching, GateFetching, NoFetching};
 use crate::intake::run_intake_part;
 use crate::least_fault::LeastFault;
 use crate::shared::{Exit, Shared};
 use crate::stopping::stop;
 use crate::worker::run_worker;
-use claim_gate::{Batch, Gate, GateState, LockedGate, SerialGate, Terms, claim_lists_exist};
+use claim_gate::{
+    Batch, Gate, GateState, LockedGate, SerialGate, SerialPrefetching, Terms, claim_lists_exist,
+};
 use cutplan::compile;
 use faults::RunFault;
 use gate_batching::GateBatching;
@@ -90,7 +93,7 @@ fn run_after_new<S: Section + Drop + Sync, R: Threads + Wait + Sync>(
     pass: S::Pass,
 ) -> Result<S::Value, RunFault>
 where
-    S::Value: SerialGate + Drop + Send + Sync,
+    S::Value: SerialGate + SerialPrefetching + Drop + Send + Sync,
     S::Pass: Send + Drop,
     requires own { S.has_pass lock pass }
     requires terms { (S.Value.shown (S.seen pass)).terms ≡ terms.now }
@@ -103,7 +106,7 @@ where
     // proof: a finished journal is final.
     finished_is_final();
     let gate = LockedGate::over(lock);
-    let pass = match run_with(rt, alloc, terms, workers, &gate, pass) {
+    let pass = match run_on(rt, alloc, terms, workers, &gate, pass, &GateFetching) {
         Ok(pass) => pass,
         Err((fault, _)) => return Err(fault),
     };
@@ -150,6 +153,33 @@ pub fn run_with<R: Threads + Wait + Sync, G: Gate + Sync>(
     ensures ended { IfErr result (λ e. e.0 ≢ Workers →
         ((G.known e.1).seen.stopped ≡ true) ⊎ G.is_worn e.1) }
 {
+    run_on(rt, alloc, terms, workers, gate, pass, &NoFetching)
+}
+
+// Runs on a gate as `run_with` does, and prefetches for the offers in an order.
+fn run_on<R: Threads + Wait + Sync, G: Gate + Sync, F: Fetching<G> + Sync>(
+    rt: &R,
+    alloc: Global,
+    terms: &Terms,
+    workers: usize,
+    gate: &G,
+    pass: G::Pass,
+    fetching: &F,
+) -> Result<G::Pass, (RunFault, G::Pass)>
+    requires own { G.has_pass gate.now pass }
+    requires terms { (G.known pass).seen.terms ≡ terms.now }
+    ensures own { IfOk result (λ p. G.has_pass gate.now p) }
+    ensures back { IfErr result (λ e. G.has_pass gate.now e.1) }
+    ensures seen { IfOk result (λ p. LeadsTo (G.known pass).seen (G.known p).seen) }
+    ensures seen_back { IfErr result (λ e. LeadsTo (G.known pass).seen (G.known e.1).seen) }
+    ensures finished { IfOk result
+        (λ p. ForTerms terms.now (λ T. Finished T (G.known p).seen.journal)) }
+    ensures workers { OnOk result (IsWorkerCount workers) }
+    ensures refused { IfErr result (λ e. (e.0 ≡ Workers) ↔ (¬ IsWorkerCount workers)) }
+    ensures stopped { IfErr result (λ e. e.0 ≡ Stopped → (G.known e.1).seen.stopped ≡ true) }
+    ensures ended { IfErr result (λ e. e.0 ≢ Workers →
+        ((G.known e.1).seen.stopped ≡ true) ⊎ G.is_worn e.1) }
+{
     if !may_have(workers) {
         return Err((RunFault::Workers, pass));
     }
@@ -165,15 +195,16 @@ pub fn run_with<R: Threads + Wait + Sync, G: Gate + Sync>(
         turns: GateBatching::new(),
         least: LeastFault::new(),
     };
-    match in_threads(&shared, pass, workers) {
+    match in_threads(&shared, fetching, pass, workers) {
         Ok(pass) => Ok(pass),
         Err(Exit { fault, pass }) => Err((shared.least.least_with(fault), pass)),
     }
 }
 
 // Starts the threads, works, and waits for them. A thread's fault is noted in `shared.least`, and the caller's own is returned.
-fn in_threads<R: Threads + Wait + Sync, G: Gate + Sync>(
+fn in_threads<R: Threads + Wait + Sync, G: Gate + Sync, F: Fetching<G> + Sync>(
     shared: &Shared<R, G>,
+    fetching: &F,
     pass: G::Pass,
     workers: usize,
 ) -> Result<G::Pass, Exit<G::Pass>>
@@ -216,25 +247,26 @@ fn in_threads<R: Threads + Wait + Sync, G: Gate + Sync>(
                         × (shared.now.plan.now ≡ shared.now.terms.now.plan)
                         × IsSync R.row }
                 {
-                    if let Err(Exit { fault, .. }) = run_thread(shared, theirs, number) {
+                    if let Err(Exit { fault, .. }) = run_thread(shared, fetching, theirs, number) {
                         shared.least.note(fault);
                     }
                 };
                 if scope.spawn(job).is_err() {
                     shared.least.note(RunFault::Thread);
                     let stopped = stop(shared.rt, shared.terms, shared.gate, mine);
-                    return run_thread(shared, stopped, threads);
+                    return run_thread(shared, fetching, stopped, threads);
                 }
                 own = mine;
             }
-            run_thread(shared, own, threads)
+            run_thread(shared, fetching, own, threads)
         },
     )
 }
 
 // Does the work of the thread with this number. A thread that runs out of memory stops the gate.
-fn run_thread<R: Threads + Wait + Sync, G: Gate>(
+fn run_thread<R: Threads + Wait + Sync, G: Gate, F: Fetching<G>>(
     shared: &Shared<R, G>,
+    fetching: &F,
     pass: G::Pass,
     number: usize,
 ) -> Result<G::Pass, Exit<G::Pass>>
@@ -248,7 +280,7 @@ fn run_thread<R: Threads + Wait + Sync, G: Gate>(
         (LeavesWith (G.has_pass shared.now.gate.now) G.is_worn G.known pass) }
     ensures ended { IfErr result (λ exit. HasEnded G.is_worn G.known exit.pass) }
 {
-    let exit = match do_part(shared, pass, number) {
+    let exit = match do_part(shared, fetching, pass, number) {
         Ok(pass) => return Ok(pass),
         Err(exit) => exit,
     };
@@ -263,8 +295,9 @@ fn run_thread<R: Threads + Wait + Sync, G: Gate>(
 }
 
 // Does the work of the intake or the worker with this number: the first numbers are those of the intakes.
-fn do_part<R: Threads + Wait + Sync, G: Gate>(
+fn do_part<R: Threads + Wait + Sync, G: Gate, F: Fetching<G>>(
     shared: &Shared<R, G>,
+    fetching: &F,
     pass: G::Pass,
     number: usize,
 ) -> Result<G::Pass, Exit<G::Pass>>
@@ -278,7 +311,7 @@ fn do_part<R: Threads + Wait + Sync, G: Gate>(
         (LeavesWith (G.has_pass shared.now.gate.now) G.is_worn G.known pass) }
 {
     if number < shared.terms.files().len() {
-        run_intake_part(shared, pass, number)
+        run_intake_part(shared, fetching, pass, number)
     } else {
         run_worker(shared, pass)
     }

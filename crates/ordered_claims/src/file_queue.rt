@@ -69,6 +69,12 @@ impl FileQueue {
         Some(claim.as_claim().service)
     }
 
+    /// Returns the first claims in the queue, at most `limit` of them.
+    pub(crate) fn front_claims(&self, limit: usize) -> &[BoxedClaim] {
+        let (front, _) = self.claims.as_slices();
+        &front[..front.len().min(limit)]
+    }
+
     /// Gives the first claim in the queue.
     pub(crate) fn give(&mut self) -> BoxedClaim
         requires there { 0 < length self.old.claims.items }

@@ -3,6 +3,7 @@ ghost use Rattle.std.specs.Prelude.{◌≡◌, ◌<◌, ◌+◌, length};
 ghost use Rattle.ordered_claims.specs.FirstHead.{IsFirstOf, is_sooner as sooner};
 
 use crate::file_queue::FileQueue;
+use claim_gate::BoxedClaim;
 use feel_tests::Day;
 use journal::Order;
 
@@ -54,4 +55,38 @@ fn is_sooner(order: Order, later: Day, earlier: Day) -> bool
         Order::Files => false,
         Order::Service => later.epoch_day() < earlier.epoch_day(),
     }
+}
+
+/// Returns the next claims of the file at `index` up to the one that comes after a next claim of another
+/// file.
+pub(crate) fn claims_before_others<'c>(
+    order: Order,
+    files: &[FileQueue],
+    index: usize,
+    claims: &'c [BoxedClaim],
+) -> &'c [BoxedClaim]
+    requires { index < length files.now }
+{
+    let earlier = first_head(order, &files[..index]);
+    let later = first_head(order, &files[index + 1..]);
+    for place in 0..claims.len() {
+        let day = claims[place].as_claim().service;
+        if !comes_first(order, day, earlier.as_ref(), later.as_ref()) {
+            return &claims[..place];
+        }
+    }
+    claims
+}
+
+// Returns whether a claim of this day comes before these next claims, one of an earlier and one of a later file.
+fn comes_first(order: Order, day: Day, earlier: Option<&Head>, later: Option<&Head>) -> bool {
+    if let Some(head) = earlier
+        && !is_sooner(order, day, head.day)
+    {
+        return false;
+    }
+    let Some(head) = later else {
+        return true;
+    };
+    !is_sooner(order, head.day, day)
 }

@@ -5,10 +5,10 @@ ghost use Rattle.ordered_claims.specs.Kept.{AreStocked, IsQueued, IsReading, Mov
 
 use crate::file_queue::FileQueue;
 use crate::file_reader::FileReader;
-use crate::heads::first_head;
+use crate::heads::{claims_before_others, first_head};
 use crate::next_claim::NextClaim;
 use crate::readers::ClaimReaders;
-use claim_gate::{Offer, Terms};
+use claim_gate::{BoxedClaim, Offer, Terms};
 use std::alloc::{AllocError, Global};
 use std::marker::Model;
 
@@ -84,6 +84,20 @@ impl<'t> ClaimQueues<'t> {
             place,
             claim,
         })
+    }
+
+    /// Returns the claims that `next` gives next, up to the next claim of another file and at most `limit`
+    /// of them.
+    pub fn upcoming(&self, limit: usize) -> &[BoxedClaim] {
+        if !self.is_stocked {
+            return &[];
+        }
+        let order = self.terms.order();
+        let Some(head) = first_head(order, &self.files) else {
+            return &[];
+        };
+        let claims = self.files[head.index].front_claims(limit);
+        claims_before_others(order, &self.files, head.index, claims)
     }
 
     /// Takes the claims that the readers have read ahead. The only error is that memory ran out, here or
