@@ -8,14 +8,16 @@ use claim_gate::{Batch, Terms};
 use closing::closing_text;
 use remit::{RunCounts, count_run};
 use std::alloc::Global;
+use std::mem::forget;
 
-/// A request to count the records of a run's remittance or not, and to add up its closing balances
-/// or not, and what the last run yields of both.
+/// A request to count the records of a run's remittance or not, to add up its closing balances or
+/// not, and to free its memory or not, and what the last run yields of the first two.
 pub struct Counting {
     is_requested: bool,
     counts: Option<RunCounts>,
     closes: bool,
     closing: Option<Vec<u8>>,
+    leaves_memory: bool,
 }
 
 impl Drop for Counting {
@@ -25,6 +27,7 @@ impl Drop for Counting {
             counts: _,
             closes: _,
             closing: _,
+            leaves_memory: _,
         } = self;
     }
 }
@@ -37,6 +40,7 @@ impl Counting {
             counts: None,
             closes: false,
             closing: None,
+            leaves_memory: false,
         }
     }
 
@@ -47,12 +51,19 @@ impl Counting {
             counts: None,
             closes: false,
             closing: None,
+            leaves_memory: false,
         }
     }
 
     /// Requests also the closing balances of the next run, which takes one more pass over the files.
     pub fn request_closing(&mut self) {
         self.closes = true;
+    }
+
+    /// Requests also that the next run does not free the memory of its batch and terms, which takes
+    /// time. It is for a program that ends soon after the run.
+    pub fn leave_memory(&mut self) {
+        self.leaves_memory = true;
     }
 
     /// Returns the counts of the last run, if they were requested and memory sufficed for them.
@@ -69,6 +80,15 @@ impl Counting {
         match &self.closing {
             Some(text) => Some(text.as_slice()),
             None => None,
+        }
+    }
+
+    // Drops a value of this run unless its memory is to be left.
+    pub(crate) fn release<T: Drop>(&self, value: T) {
+        if self.leaves_memory {
+            forget(value);
+        } else {
+            drop(value);
         }
     }
 

@@ -147,7 +147,7 @@ fn run_plan<R: Threads + Wait + Sync + AllocGlobal, W: Write>(
         order,
     )?;
     let done = write_remittance(rt, &terms, input.workers, out, counting);
-    drop(terms);
+    counting.release(terms);
     done
 }
 
@@ -182,5 +182,6 @@ fn write_remittance<R: Threads + Wait + Sync + AllocGlobal, W: Write>(
     write_report_by_threads(rt, rt.alloc(), terms, &batch, out)?;
     counting.count(rt.alloc(), terms, &batch);
     counting.close(rt.alloc(), terms, &batch);
+    counting.release(batch);
     Ok(())
 }
