@@ -2,7 +2,6 @@
 use Rattle.std.proofs.Common.{◌≡◌, List, [], ◌++◌, Option, Some, None, refl, sym, ap, ◌∙◌, append_assoc, append-nil}
 use Rattle.tables.specs.declared.inputs.Slot.{Slot}
 use Rattle.tables.specs.declared.roles.Roles.{Roles}
-use Rattle.tables.specs.declared.table.Table.{Table}
 use Rattle.tables.specs.Environment.{Environment}
 use Rattle.tables.specs.Plan.{PlanParts}
 use Rattle.settlement.specs.declared.acc.Acc.{Acc}

@@ -1,19 +1,12 @@
 -- The slots of a plan's names, filled one after another.
-use Rattle.std.proofs.Common.{◌≡◌, ℕ, zero, suc, ◌+◌, ◌<◌, ◌≤◌, List, [], ◌∷◌, ◌++◌, map, take, drop, length, slice_get, Option, Some, None, option_map, refl, sym, ap, subst, ◌∙◌, arith, append-nil}
+use Rattle.std.proofs.Common.{◌≡◌, ℕ, zero, suc, ◌+◌, ◌<◌, ◌≤◌, List, [], ◌∷◌, map, length, slice_get, Some, refl, sym, ap, subst, ◌∙◌, arith}
 use Rattle.std.specs.Prelude.{get_or}
-use Rattle.std.proofs.lemmas.Option.{none-some}
 use Rattle.feel_tests.specs.Value.{kind_of}
-use Rattle.feel_tests.specs.declared.kind.Kind.{Kind}
 use Rattle.feel_tests.specs.declared.value.Value.{Value}
-use Rattle.tables.specs.Inputs.{Takes, empty_slots, fill_slot, kind_at}
-use Rattle.tables.specs.Plan.{PlanParts}
+use Rattle.tables.specs.Inputs.{Takes, empty_slots, fill_slot}
 use Rattle.tables.specs.declared.inputs.Slot.{Slot}
 use Rattle.tables.specs.declared.table.InputData.{InputData}
-use Rattle.settlement.specs.Bindings.{given_by, slot_of, values_given}
-use Rattle.settlement.specs.Claim.{IsClaimOf}
-use Rattle.settlement.specs.declared.acc.Acc.{Acc}
-use Rattle.settlement.specs.declared.claim.Claim.{Claim}
-use Rattle.settlement.proofs.AllBound.{kinds_given}
+use Rattle.settlement.specs.Bindings.{slot_of}
 
 -- the first slots have their values, and the others are empty
 abbrev pub filled : List InputData → List Value → ℕ → List Slot

@@ -8,7 +8,7 @@ use Rattle.tables.specs.declared.roles.Source.{Source}
 use Rattle.tables.specs.Environment.{Environment}
 use Rattle.settlement.specs.Roles.{units_where, value_of}
 use Rattle.settlement.specs.Settlement.{remaining}
-use Rattle.explanation.specs.Facts.{FactParts, fact}
+use Rattle.explanation.specs.Facts.{fact}
 use Rattle.explanation.specs.Steps.{left_facts, left_of}
 
 pub left_added : (given : List Slot) (env : Environment) (name : List ℕ) (source : Source) (used limit rest : ℤ) (value : Option Value) → value ≡ value_of given env source

@@ -6,19 +6,16 @@ use Rattle.std.proofs.lemmas.Option.{none-some, same_Some, slice_get-get_or, sli
 use Rattle.tables.specs.declared.table.InputData.{InputData}
 use Rattle.settlement.specs.declared.claim.Claim.{Claim}
 use Rattle.intake_csv.specs.Laws.{BeginWith, GivenRowIsTheFirst, LieApart, NoRecordsNoRows, StartHasTheRows}
-use Rattle.intake_csv.specs.Rows.{AreRowsLeft, AreRowsOf, Gives, GivesRow, IsAtStart, RowsLeft, claims_among, claims_in, is_claim}
+use Rattle.intake_csv.specs.Records.{Fields}
+use Rattle.intake_csv.specs.Rows.{AreRowsLeft, AreRowsOf, Gives, GivesRow, IsAtStart, IsRow, RowsLeft, claims_among, is_claim}
+use Rattle.intake_csv.specs.declared.column.Layout.{Layout}
 use Rattle.intake_csv.specs.declared.rows.Row.{Row}
 use Rattle.intake_csv.specs.declared.rows.Row.TheVariants.{Good, Bad}
 use Rattle.intake_csv.proofs.Handing.{count-row}
 use Rattle.journal.specs.Events.{claim_filed}
-use Rattle.journal.specs.Terms.{Terms}
-use Rattle.claim_gate.specs.Terms.{AreClaimsOf, ForTerms, IsTermsOf, TermsParts}
+use Rattle.claim_gate.specs.Terms.{AreClaimsOf, ForTerms, TermsParts}
 use Rattle.explanation.specs.Cases.{IsRowAt}
-
--- the reader is past the first rows of the text, this number of them
-pub record IsPast (names : List InputData) (text : List ℕ) (count : ℕ) (left : RowsLeft) : Type 0 where
-  pub apart : LieApart left.layout.columns
-  pub rest : (rows : List Row) → AreRowsOf names text rows → AreRowsLeft left (drop count rows)
+use Rattle.explanation.specs.Walking.{IsPast}
 
 pub past_none : StartHasTheRows → (names : List InputData) (text : List ℕ) (left : RowsLeft) → IsAtStart names text left → LieApart left.layout.columns → IsPast names text 0 left
 past_none law names text left start apart = record { apart = apart; rest = λ rows are. law names text left rows start are }
@@ -66,10 +63,18 @@ module _ (first : GivenRowIsTheFirst) (names : List InputData) (text : List ℕ)
   last_row law number same None gives = no_row law gives.0 number (omega (arith, same))
   last_row law number same (Some row) gives = row_found row gives number (sym same)
 
-split_at : {A : Type 0} (xs : List A) (k : ℕ) (x : A) → slice_get xs k ≡ Some x → xs ≡ take k xs ++ x ∷ drop (suc k) xs
+pub split_at : {A : Type 0} (xs : List A) (k : ℕ) (x : A) → slice_get xs k ≡ Some x → xs ≡ take k xs ++ x ∷ drop (suc k) xs
 split_at [] k x e = absurd (none-some x e)
 split_at (y ∷ xs) zero x e = ap (λ z. z ∷ xs) (same_Some y x e)
 split_at (y ∷ xs) (suc k) x e = ap (λ zs. y ∷ zs) (split_at xs k x e)
+
+pub take_next : {A : Type 0} (xs : List A) (k : ℕ) (x : A) → slice_get xs k ≡ Some x → take (k + 1) xs ≡ take k xs ++ x ∷ []
+take_next xs k x e = let more : k + 1 ≡ suc k = omega arith in ap (λ n. take n xs) more ∙ taken xs k x e
+  where
+    taken : {A : Type 0} (xs : List A) (k : ℕ) (x : A) → slice_get xs k ≡ Some x → take (suc k) xs ≡ take k xs ++ x ∷ []
+    taken [] k x e = absurd (none-some x e)
+    taken (y ∷ xs) zero x e = ap (λ z. z ∷ []) (same_Some y x e)
+    taken (y ∷ xs) (suc k) x e = ap (λ zs. y ∷ zs) (taken xs k x e)
 
 length_of_front : {A : Type 0} (xs : List A) (k : ℕ) (x : A) → slice_get xs k ≡ Some x → length (take k xs) ≡ k
 length_of_front [] k x e = absurd (none-some x e)
@@ -89,25 +94,50 @@ claim_at_row (Bad n f ∷ rows) (suc k) number place claim e =
     let counted : count_by is_claim (Bad n f ∷ take k rows) ≡ count_by is_claim (take k rows) = let more = count-row (Bad n f) (take k rows) in omega (arith, more) in
     ap (slice_get (claims_among rows)) counted ∙ claim_at_row rows k number place claim e
 
--- the row's number and place are those of its record
+-- the number of a row
+abbrev pub number_in : Row → ℕ
+number_in (Good number place claim) = number
+number_in (Bad number fault) = number
+
+-- a row is that of its record
+row_at : (names : List InputData) (text : List ℕ) (rows : List Row) (k : ℕ) (row : Row) (are : AreRowsOf names text rows) → slice_get rows k ≡ Some row
+    → (fields : Fields) × IsRow are.layout (1 + length (take k rows)) (0 + count_by is_claim (take k rows)) fields row
+row_at names text rows k row are at =
+    let size = length_of_front rows k row at in
+    let bound = slice_get_within rows k row at in
+    let within : length (take k rows) < length are.records = omega (arith, size, bound, are.are_rows.as_many) in
+    let there = slice_get-get_or are.records (length (take k rows)) [] within in
+    (get_or are.records (length (take k rows)) [], are.are_rows.each (take k rows) (drop (suc k) rows) row (get_or are.records (length (take k rows)) []) (split_at rows k row at) there)
+
+number_of_row : (layout : Layout) (number place : ℕ) (fields : Fields) (row : Row) → IsRow layout number place fields row → number_in row ≡ number
+number_of_row layout number place fields (Good n p claim) is = is.0
+number_of_row layout number place fields (Bad n fault) is = is.0
+
+-- the rows have the numbers from 1
+pub row_numbered : (names : List InputData) (text : List ℕ) (rows : List Row) (k : ℕ) (row : Row) → AreRowsOf names text rows → slice_get rows k ≡ Some row → number_in row ≡ k + 1
+row_numbered names text rows k row are at =
+    let is = row_at names text rows k row are at in
+    let size = length_of_front rows k row at in
+    number_of_row are.layout (1 + length (take k rows)) (0 + count_by is_claim (take k rows)) is.0 row is.1 ∙ omega (arith, size)
+
 row_placed : (names : List InputData) (text : List ℕ) (rows : List Row) (k number place : ℕ) (claim : Claim) → AreRowsOf names text rows
     → slice_get rows k ≡ Some (Good number place claim) → place ≡ count_by is_claim (take k rows)
 row_placed names text rows k number place claim are at =
-    let size = length_of_front rows k (Good number place claim) at in
-    let bound = slice_get_within rows k (Good number place claim) at in
-    let within : length (take k rows) < length are.records = omega (arith, size, bound, are.are_rows.as_many) in
-    let there = slice_get-get_or are.records (length (take k rows)) [] within in
-    let row =
-    are.are_rows.each (take k rows) (drop (suc k) rows) (Good number place claim) (get_or are.records (length (take k rows)) []) (split_at rows k (Good number place claim) at) there in
+    let row = (row_at names text rows k (Good number place claim) are at).1 in
     let placed : place ≡ 0 + count_by is_claim (take k rows) = row.1 in
     omega (arith, placed)
 
-at_place : (names : List InputData) (texts : List (List ℕ)) (files : List (List Claim)) (i : ℕ) → AllZip (AreClaimsOf names) texts files → i < length texts
-    → AreClaimsOf names (get_or texts i []) (get_or files i [])
-at_place names [] files i all within = absurd (omega (arith, within))
-at_place names (text ∷ texts) [] i all within = absurd all
-at_place names (text ∷ texts) (cs ∷ files) zero all within = all.0
-at_place names (text ∷ texts) (cs ∷ files) (suc i) all within = at_place names texts files i all.1 (omega (arith, within))
+pub zip_at : {A B : Type 0} (R : A → B → Type 0) (xs : List A) (ys : List B) (i : ℕ) (d : A) (e : B) → AllZip R xs ys → i < length xs → R (get_or xs i d) (get_or ys i e)
+zip_at R [] ys i d e all within = absurd (omega (arith, within))
+zip_at R (x ∷ xs) [] i d e all within = absurd all
+zip_at R (x ∷ xs) (y ∷ ys) zero d e all within = all.0
+zip_at R (x ∷ xs) (y ∷ ys) (suc i) d e all within = zip_at R xs ys i d e all.1 (omega (arith, within))
+
+pub zip_long : {A B : Type 0} (R : A → B → Type 0) (xs : List A) (ys : List B) → AllZip R xs ys → length xs ≡ length ys
+zip_long R [] [] all = refl
+zip_long R [] (y ∷ ys) all = absurd all
+zip_long R (x ∷ xs) [] all = absurd all
+zip_long R (x ∷ xs) (y ∷ ys) all = ap suc (zip_long R xs ys all.1)
 
 -- the claim of the row of a provider's file is the provider's claim at the row's place
 pub row_filed : (parts : TermsParts) (provider index number place : ℕ) (claim : Claim) → 1 ≤ provider → provider ≤ length parts.files
@@ -117,7 +147,7 @@ row_filed parts zero index number place claim least most row T is = absurd (omeg
 row_filed parts (suc i) index number place claim least most row T is =
     let before : suc i - 1 ≡ i = omega arith in
     let at : IsRowAt parts.plan.names (get_or parts.files i []) index (Some (Good number place claim)) = rw before at row in
-    let file = at_place parts.plan.names parts.files T.files i is.files (omega (arith, most)) in
+    let file = zip_at (AreClaimsOf parts.plan.names) parts.files T.files i [] [] is.files (omega (arith, most)) in
     let there = sym (at file.rows file.are_rows) in
     let placed = row_placed parts.plan.names (get_or parts.files i []) file.rows (index - 1) number place claim file.are_rows there in
     ap (λ cs. slice_get cs place) file.claims_are ∙ ap (slice_get (claims_among file.rows)) placed

@@ -1,6 +1,5 @@
 -- The text of an explanation, and the errors.
-use Rattle.std.proofs.Common.{inl, inr, ◌≡◌, ◌≢◌, ℕ, List, Option, Some, None, Result, Ok, Err, IfErr, IfOk, option_map, refl, sym, subst}
-use Rattle.std.specs.Global.{Vec}
+use Rattle.std.proofs.Common.{◌≡◌, ◌≢◌, ℕ, List, Option, Some, None, sym, subst}
 use Rattle.tables.specs.Plan.{PlanParts}
 use Rattle.dtable.specs.PlanFile.{IsPlanText}
 use Rattle.faults.specs.declared.plan_fault.PlanCause.TheVariants as cause
@@ -16,8 +15,14 @@ use Rattle.adjudicate.specs.RunText.{AreTermsUnder, RunTexts}
 use Rattle.adjudicate.specs.Stop.{IsStopOfPlan}
 use Rattle.adjudicate.specs.declared.stop.Stop.{Stop}
 use Rattle.adjudicate.specs.declared.stop.Stop.TheVariants as stop
-use Rattle.explanation.specs.Explained.{AreTermsInOrder, IsExplainReason, IsTextOf}
+use Rattle.explanation.specs.Asked.{IsTargetText, IsTargetTextOver}
+use Rattle.explanation.specs.declared.asked.Target.{Target}
+use Rattle.explanation.specs.declared.asked.Target.TheVariants.{Record, Family}
+use Rattle.explanation.specs.Explained.{IsExplainReason, IsFamilyTextOf, IsFoundIn, IsTextOf}
 use Rattle.explanation.specs.Explanation.{IsTextOver}
+use Rattle.explanation.specs.FamilyExplanation.{IsFamilyTextOver}
+use Rattle.explanation.specs.Finding.{IsFound}
+use Rattle.explanation.specs.declared.finding.FoundClaim.{FoundClaim}
 use Rattle.explanation.specs.declared.row.Place.{Place}
 use Rattle.explanation.specs.declared.format.Format.{Format}
 
@@ -45,7 +50,7 @@ pub reason_of_memory : (texts : RunTexts) (s : Stop) → s ≡ stop.Value value.
 reason_of_memory texts s memory = subst (IsExplainReason texts) (sym memory) tt
 
 -- an explanation over terms of the texts is one of the texts
-pub text_of_texts : (order : Order) (texts : RunTexts) (plan : PlanParts) (parts : TermsParts) (place : Place) (format : Format) (text : Option (List ℕ))
+text_of_texts : (order : Order) (texts : RunTexts) (plan : PlanParts) (parts : TermsParts) (place : Place) (format : Format) (text : Option (List ℕ))
     → IsPlanText texts.plan plan → AreTermsUnder plan texts parts → parts.order ≡ order → IsTextOver parts place format text → IsTextOf order texts place format text
 text_of_texts order texts plan parts place format (Some text) spelled are ordered is = record {
   parts = parts;
@@ -57,3 +62,28 @@ text_of_texts order texts plan parts place format None spelled are ordered is = 
   terms = record { over = record { plan = plan; spelled = spelled; are_terms = are }; ordered = ordered };
   missing = is;
 }
+
+-- the explanation of a family over terms of the texts is one of the texts
+family_text_of_texts : (order : Order) (texts : RunTexts) (plan : PlanParts) (parts : TermsParts) (family : List ℕ) (format : Format) (text : Option (List ℕ))
+    → IsPlanText texts.plan plan → AreTermsUnder plan texts parts → parts.order ≡ order → IsFamilyTextOver parts family format text → IsFamilyTextOf order texts family format text
+family_text_of_texts order texts plan parts family format (Some text) spelled are ordered is = record {
+  parts = parts;
+  terms = record { over = record { plan = plan; spelled = spelled; are_terms = are }; ordered = ordered };
+  explains = is;
+}
+family_text_of_texts order texts plan parts family format None spelled are ordered is = record {
+  parts = parts;
+  terms = record { over = record { plan = plan; spelled = spelled; are_terms = are }; ordered = ordered };
+  missing = is;
+}
+
+-- what is found over terms of the texts is found in the texts
+pub found_in_texts : (texts : RunTexts) (plan : PlanParts) (parts : TermsParts) (id : List ℕ) (found : Option FoundClaim) → IsPlanText texts.plan plan → AreTermsUnder plan texts parts → IsFound parts id found
+    → IsFoundIn texts id found
+found_in_texts texts plan parts id found spelled are is = record { parts = parts; over = record { plan = plan; spelled = spelled; are_terms = are }; found_is = is }
+
+-- the explanation of a target over terms of the texts is one of the texts
+pub target_text_of_texts : (order : Order) (texts : RunTexts) (plan : PlanParts) (parts : TermsParts) (target : Target) (format : Format) (text : Option (List ℕ)) → IsPlanText texts.plan plan
+    → AreTermsUnder plan texts parts → parts.order ≡ order → IsTargetTextOver parts target format text → IsTargetText order texts target format text
+target_text_of_texts order texts plan parts (Record place) format text spelled are ordered is = text_of_texts order texts plan parts place format text spelled are ordered is
+target_text_of_texts order texts plan parts (Family family) format text spelled are ordered is = family_text_of_texts order texts plan parts family.now format text spelled are ordered is

@@ -4,9 +4,8 @@ use Rattle.settlement.specs.declared.claim.Claim.{Claim}
 use Rattle.intake_csv.specs.declared.rows.Row.{Row}
 use Rattle.intake_csv.specs.declared.rows.Row.TheVariants.{Good, Bad}
 use Rattle.journal.specs.Terms.{Terms}
-use Rattle.journal.specs.declared.order.Order.{Order}
 use Rattle.claim_gate.specs.Terms.{ForTerms, TermsParts}
-use Rattle.explanation.specs.Cases.{IsAccepted, IsLate, IsRowAt}
+use Rattle.explanation.specs.Cases.{IsCase, IsRowAt}
 use Rattle.explanation.specs.Facts.{FactParts, facts_text}
 use Rattle.explanation.specs.Steps.{decided_facts, late_facts, refused_facts}
 use Rattle.explanation.specs.declared.row.Place.{Place}
@@ -14,17 +13,21 @@ use Rattle.explanation.specs.declared.format.Format.{Format}
 use Rattle.explanation.specs.declared.search.Case.{Case}
 use Rattle.explanation.specs.declared.search.Case.TheVariants.{Accepted, Late}
 
--- these are the facts of a claim in this case
-abbrev pub IsFactsOfClaim : Order → Terms → ℕ → ℕ → ℕ → Claim → List FactParts → Case → Type 0
-IsFactsOfClaim order T provider number place claim facts (Accepted position acc) =
-    IsAccepted order T (record { provider = provider; place = place }) claim position acc × (facts ≡ decided_facts T.plan provider number claim position acc)
-IsFactsOfClaim order T provider number place claim facts (Late cutoff) =
-    IsLate order T (record { provider = provider; place = place }) cutoff × (facts ≡ late_facts T.plan.version provider number claim cutoff)
+-- the facts of a claim in a case
+abbrev pub facts_of_case : TermsParts → ℕ → ℕ → Claim → Case → List FactParts
+facts_of_case parts provider number claim (Accepted position before) = decided_facts parts.plan provider number claim position before
+facts_of_case parts provider number claim (Late cutoff) = late_facts parts.plan.version provider number claim cutoff
 
--- these are the facts of a row of the provider's file, if claims are accepted in the order
-abbrev pub IsFactsOf : Order → Terms → ℕ → List FactParts → Row → Type 0
-IsFactsOf order T provider facts (Good number place claim) = (case : Case) × IsFactsOfClaim order T provider number place claim facts case
-IsFactsOf order T provider facts (Bad number fault) = facts ≡ refused_facts T.plan.version provider number fault
+-- these are the facts of a claim, which is accepted or late
+pub record IsFactsOfClaim (parts : TermsParts) (T : Terms) (provider number place : ℕ) (claim : Claim) (facts : List FactParts) : Type 0 where
+  pub case : Case
+  pub is_case : IsCase parts T (record { provider = provider; place = place }) claim case
+  pub facts_are : facts ≡ facts_of_case parts provider number claim case
+
+-- these are the facts of a row of the provider's file
+abbrev pub IsFactsOf : TermsParts → Terms → ℕ → List FactParts → Row → Type 0
+IsFactsOf parts T provider facts (Good number place claim) = IsFactsOfClaim parts T provider number place claim facts
+IsFactsOf parts T provider facts (Bad number fault) = facts ≡ refused_facts parts.plan.version provider number fault
 
 -- the place of a record, from 1: there is a file with this number
 pub record IsPlace (parts : TermsParts) (place : Place) : Type 0 where
@@ -42,7 +45,7 @@ pub record IsExplanationOf (parts : TermsParts) (place : Place) (format : Format
   pub row : Row
   pub row_is : IsRowOf parts place (Some row)
   pub facts : List FactParts
-  pub facts_are : ForTerms parts (λ T. IsFactsOf parts.order T place.provider facts row)
+  pub facts_are : ForTerms parts (λ T. IsFactsOf parts T place.provider facts row)
   pub text_is : text ≡ facts_text format facts
 
 -- there is no record at the place

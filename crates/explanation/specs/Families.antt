@@ -1,60 +1,71 @@
--- The accumulators of a family's accounts, as far as its claims are settled.
-use Rattle.std.specs.Prelude.{◌≡◌, ◌==◌, ◌&&◌, ℕ, Bool, true, false, cond, List, [], ◌∷◌, ◌++◌, fold, length}
+-- The accounts of a family, as far as its claims are settled.
+use Rattle.std.specs.Prelude.{◌≡◌, ◌==◌, ◌&&◌, ℕ, Bool, cond, List, fold, slice_get, take, Some, None}
 use Rattle.std.specs.Str.{bytes_eq}
 use Rattle.tables.specs.Plan.{PlanParts}
-use Rattle.settlement.specs.Accounts.{Account, account_of, account_year, family_of}
+use Rattle.settlement.specs.Accounts.{Account, account_of, account_year}
 use Rattle.settlement.specs.Accumulators.{after}
 use Rattle.settlement.specs.Opening.{opening}
 use Rattle.settlement.specs.Settlement.{outcome}
 use Rattle.settlement.specs.declared.acc.Acc.{Acc}
 use Rattle.settlement.specs.declared.claim.Claim.{Claim}
 use Rattle.intake_csv.specs.Balances.{accounts_of}
-use Rattle.journal.specs.Events.{Book, accepted_count, accepts, claims, closed, noted, places}
-use Rattle.journal.specs.InOrder.{AreFirstInOrder}
+use Rattle.journal.specs.Events.{Book, Filed}
 use Rattle.journal.specs.Terms.{Terms}
-use Rattle.journal.specs.declared.event.Event.{Event}
-use Rattle.claim_gate.specs.Terms.{ForTerms, TermsParts}
+use Rattle.claim_gate.specs.Terms.{TermsParts}
 use Rattle.lanes.specs.Places.{merge_acc}
-use Rattle.ordered_claims.specs.OrderedParts.{OrderedParts, given_of}
-use Rattle.explanation.specs.declared.family.Left.{Left}
+use Rattle.orders.specs.Order.{before_by}
+use Rattle.explanation.specs.Cases.{IsPlaceOf, last_of}
+use Rattle.explanation.specs.declared.family.LastClaim.{LastClaim}
+use Rattle.explanation.specs.declared.family.Standing.{Standing}
+use Rattle.explanation.specs.declared.row.Place.{Place}
 
--- the accumulators of an account of the family after one more of its claims
-abbrev pub left_by : Account → Acc → Left → Acc
-left_by account acc left = merge_acc ((left.year == account.year) && bytes_eq left.member account.member) (left.year == account.year) left.acc acc
+-- an account after one more claim of its family: a claim of the account itself leaves its accumulators and is its last one, and a claim of
+-- another member in the same year leaves the sums of the family
+abbrev pub merged : Bool → Bool → LastClaim → Standing → Standing
+merged own shared last standing = record { acc = merge_acc own shared last.acc standing.acc; last = cond own (Some last.place) standing.last }
 
--- the accumulators of an account of the family after its claims
-abbrev pub present : Account → Acc → List Left → Acc
-present account begun lefts = fold (left_by account) begun lefts
+abbrev pub left_by : Account → Standing → LastClaim → Standing
+left_by account standing last = merged ((last.year == account.year) && bytes_eq last.member account.member) (last.year == account.year) last standing
+
+-- an account before the first claim of its family
+abbrev pub begun_with : Acc → Standing
+begun_with acc = record { acc = acc; last = None }
+
+-- an account with these opening accumulators after claims of its family
+abbrev pub present : Account → Acc → List LastClaim → Standing
+present account begun lasts = fold (left_by account) (begun_with begun) lasts
 
 -- the opening accumulators of accounts
 abbrev pub opened : TermsParts → Book
 opened parts account = opening (accounts_of parts.balances) account
 
--- the accumulators before a claim of the family
-abbrev pub present_for : PlanParts → Book → List Left → Claim → Acc
-present_for plan begun lefts claim = let account = account_of plan claim in present account (begun account) lefts
+-- the account of a claim of the family, before the claim
+abbrev pub present_for : PlanParts → Book → List LastClaim → Claim → Standing
+present_for plan begun lasts claim = let account = account_of plan claim in present account (begun account) lasts
 
--- what a claim of the family leaves
-abbrev pub left_after : PlanParts → Book → List Left → Claim → Left
-left_after plan begun lefts claim =
-    let acc = present_for plan begun lefts claim in
-    record { member = claim.member; year = account_year plan claim; acc = after acc (outcome plan claim acc) }
+-- a claim of the family, with what it leaves
+abbrev pub left_after : PlanParts → Book → List LastClaim → Place → Claim → LastClaim
+left_after plan begun lasts place claim =
+    let acc = (present_for plan begun lasts claim).acc in
+    record { member = claim.member; year = account_year plan claim; acc = after acc (outcome plan claim acc); place = place }
 
--- after one more claim: a claim of another family leaves nothing
-abbrev pub with_claim : PlanParts → Book → List ℕ → List Left → Claim → List Left
-with_claim plan begun family lefts claim = cond (bytes_eq (family_of claim) family) (lefts ++ left_after plan begun lefts claim ∷ []) lefts
+-- each account has what it has after the old claims and then this one
+abbrev pub Adds : List LastClaim → List LastClaim → LastClaim → Type 0
+Adds old new last = (account : Account) (begun : Acc) → present account begun new ≡ left_by account (present account begun old) last
 
--- for each account of the family, the accumulators after the claims of the journal are those that the family's claims have left
-abbrev pub AreLeft : Terms → List Event → List ℕ → List Left → Type 0
-AreLeft T J family lefts =
-    (account : Account) → account.family ≡ family → present account (opening T.balances account) lefts ≡ fold (noted T.plan) (opening T.balances) (claims T J) account
+-- the claim at the index is one of the same account as this one
+pub record IsOfAccountAt (lasts : List LastClaim) (index : ℕ) (last : LastClaim) : Type 0 where
+  pub found : LastClaim
+  pub there : slice_get lasts index ≡ Some found
+  pub year : found.year ≡ last.year
+  pub member : found.member ≡ last.member
 
--- the claims that the reader has given are accepted in the order, at the positions before this one, and those of the family are settled
-pub record AreSettled (parts : TermsParts) (family : List ℕ) (given : OrderedParts) (position : ℕ) (lefts : List Left) : Type 0 where
-  pub terms : given.terms ≡ parts
-  pub journal : List Event
-  pub open_yet : closed journal ≡ false
-  pub as_many : (provider : ℕ) → length (places journal provider) ≡ given_of given provider
-  pub counted : accepted_count journal ≡ position
-  pub in_order : ForTerms parts (λ T. AreFirstInOrder parts.order T.files (accepts journal))
-  pub left : ForTerms parts (λ T. AreLeft T journal family lefts)
+-- the account has these accumulators and this last claim after the first claims of an order, as many as are counted
+pub record IsStanding (parts : TermsParts) (T : Terms) (claims : List Filed) (count : ℕ) (account : Account) (standing : Standing) : Type 0 where
+  pub acc : standing.acc ≡ before_by T claims count account
+  pub last : IsPlaceOf parts T (last_of T account (take count claims)) standing.last
+
+-- each account of the family has what its claims have left, after the first claims of an order
+abbrev pub AreLeft : TermsParts → Terms → List Filed → ℕ → List ℕ → List LastClaim → Type 0
+AreLeft parts T claims count family lasts =
+    (account : Account) → account.family ≡ family → IsStanding parts T claims count account (present account (opening T.balances account) lasts)

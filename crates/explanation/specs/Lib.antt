@@ -3,5 +3,10 @@ pub mod Tables
 pub mod Steps
 pub mod Cases
 pub mod Families
+pub mod Walking
 pub mod Explanation
+pub mod FamilyExplanation
+pub mod Finding
 pub mod Explained
+pub mod Asked
+pub mod Laws

@@ -1,19 +1,16 @@
 -- What an explanation says of a claim, of its accumulators and of the steps of its settlement.
-use Rattle.std.specs.Prelude.{ℕ, ℤ, ◌+◌, ◌-◌, List, [], ◌∷◌, ◌++◌, codes, decimal, length, take, Option, Some, None, Result, Ok, Err}
-use Rattle.std.specs.Option.{option_and_then}
+use Rattle.std.specs.Prelude.{ℕ, ℤ, ◌+◌, ◌-◌, List, [], ◌∷◌, ◌++◌, codes, decimal, length, take, Option, Some, None}
 use Rattle.fixpoint.specs.Money.{is_money, money_text}
 use Rattle.faults.specs.ReasonText.{reason_text}
-use Rattle.faults.specs.declared.fault.Fault.{Fault}
 use Rattle.faults.specs.declared.file_fault.RowFault.{RowFault}
 use Rattle.feel_tests.specs.Value.{literal_text}
-use Rattle.feel_tests.specs.declared.value.Value.{Value}
 use Rattle.feel_tests.specs.declared.value.Value.TheVariants as values
 use Rattle.tables.specs.declared.environment.Answer.{Answer}
 use Rattle.tables.specs.declared.inputs.Slot.{Slot}
 use Rattle.tables.specs.declared.roles.FamilyRoles.{FamilyRoles}
 use Rattle.tables.specs.declared.roles.Roles.{Roles}
 use Rattle.tables.specs.declared.roles.Source.{Source}
-use Rattle.tables.specs.declared.roles.Source.TheVariants.{Literal, Input, Output}
+use Rattle.tables.specs.declared.roles.Source.TheVariants.{Output}
 use Rattle.tables.specs.Environment.{Environment, answers_of}
 use Rattle.tables.specs.Plan.{PlanParts}
 use Rattle.settlement.specs.declared.acc.Acc.{Acc}
@@ -28,6 +25,8 @@ use Rattle.settlement.specs.Settlement.{outcome, remaining}
 use Rattle.remit.specs.FieldTexts.{fault_text}
 use Rattle.remit.specs.Records.{id_column_fields, line_of, reported_of, reported_refused, whose_fields}
 use Rattle.remit.specs.Report.{record_text}
+use Rattle.explanation.specs.declared.family.Standing.{Standing}
+use Rattle.explanation.specs.declared.row.Place.{Place}
 use Rattle.explanation.specs.Facts.{FactParts, fact, value_facts}
 use Rattle.explanation.specs.Tables.{ok_part, tables_facts}
 
@@ -57,6 +56,15 @@ accumulator_facts step family acc =
     ∷ fact step (codes "paid out of pocket") (money_text acc.oop)
     ∷ fact step (codes "paid by the plan") (money_text acc.paid)
     ∷ family_facts step family acc
+
+-- the record of the account's last claim before this one, if there is one
+abbrev pub last_facts : List ℕ → Option Place → List FactParts
+last_facts step None = []
+last_facts step (Some place) = fact step (codes "after file") (decimal place.provider) ∷ fact step (codes "after record") (decimal place.number) ∷ []
+
+-- what an account has before the claim
+abbrev pub before_facts : List ℕ → Option (List ℕ) → Standing → List FactParts
+before_facts step family before = accumulator_facts step family before.acc ++ last_facts step before.last
 
 -- the output that a role names
 abbrev pub source_text : Source → List ℕ
@@ -163,14 +171,15 @@ outcome_facts plan claim acc o =
     computation_facts plan (given_by claim acc) acc o
     ++ (fact (codes "settlement") (codes "verdict") (verdict_text o.verdict) ∷ accumulator_facts (codes "after this claim") claim.family (after acc o))
 
--- a claim that is decided at a position, from 0, with these accumulators before it
-abbrev pub decided_facts : PlanParts → ℕ → ℕ → Claim → ℕ → Acc → List FactParts
-decided_facts plan provider number claim position acc =
+-- a claim that is decided at a position, from 0, and what its account has before it
+abbrev pub decided_facts : PlanParts → ℕ → ℕ → Claim → ℕ → Standing → List FactParts
+decided_facts plan provider number claim position before =
+    let acc = before.acc in
     let o = outcome plan claim acc in
     place_facts provider number
     ++ (claim_facts claim
     ++ (fact (codes "this claim") (codes "position in the order of acceptance") (decimal (position + 1))
-    ∷ (accumulator_facts (codes "before this claim") claim.family acc
+    ∷ (before_facts (codes "before this claim") claim.family before
     ++ (outcome_facts plan claim acc o ++ record_facts (claim_record plan.version provider number claim (Some o))))))
 
 -- a claim that comes after the last one that the cutoff admits

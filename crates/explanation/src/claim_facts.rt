@@ -3,22 +3,22 @@ ghost use Rattle.std.specs.Prelude.{◌≡◌, ◌≢◌, ◌≤◌, ◌++◌, S
 ghost use Rattle.csv.specs.Records.{fields_of};
 ghost use Rattle.settlement.specs.Claim.{IsClaimOf};
 ghost use Rattle.settlement.specs.Settlement.{outcome};
-ghost use Rattle.intake_csv.specs.declared.rows.Row.TheVariants.{Good};
 ghost use Rattle.journal.specs.Events.{claim_filed};
 ghost use Rattle.journal.specs.declared.order.Order.TheVariants.{Any};
 ghost use Rattle.claim_gate.specs.Terms.{ForTerms};
 ghost use Rattle.explanation.specs.Cases.{filed_of};
-ghost use Rattle.explanation.specs.Explanation.{IsFactsOf, IsPlace, IsRowOf};
+ghost use Rattle.explanation.specs.Explanation.{IsFactsOf, IsFactsOfClaim, IsPlace, IsRowOf, facts_of_case};
+ghost use Rattle.explanation.specs.Walking.{ClaimsFit};
 ghost use Rattle.explanation.specs.Steps.{computation_facts, decided_facts, late_facts, outcome_facts, record_facts, refused_facts, settled_facts};
 
 use crate::fact::Facts;
-use crate::family::outcome_of;
+use crate::family::{Standing, outcome_of};
 use crate::given::inputs_of;
 use crate::record::{fill_claim, fill_refused, record_line};
 use crate::row::Place;
 use crate::search::{Case, Wanted, find_case};
 use crate::settlement_steps::{
-    add_accumulators, add_amounts, add_claim, add_place, add_roles, verdict_text,
+    add_accumulators, add_amounts, add_before, add_claim, add_place, add_roles, verdict_text,
 };
 use crate::table::add_tables;
 use crate::words::fault_text;
@@ -41,7 +41,7 @@ pub(crate) fn facts_of_row(
     requires there { IsPlace terms.now place }
     requires row { IsRowOf terms.now place (Some row.now) }
     ensures { IfOk result (λ facts. ForTerms terms.now
-        (λ T. IsFactsOf terms.now.order T place.provider facts row.now)) }
+        (λ T. IsFactsOf terms.now T place.provider facts row.now)) }
 {
     match row {
         Row::Good {
@@ -107,56 +107,86 @@ fn facts_of_claim(
     requires most { wanted.now.provider ≤ length terms.now.files }
     requires there { ForTerms terms.now
         (λ T. claim_filed T (filed_of wanted.now) ≡ Some wanted.now.claim.now) }
-    ensures { IfOk result (λ facts. ForTerms terms.now (λ T. IsFactsOf terms.now.order T
-        wanted.now.provider facts (Good number wanted.now.place wanted.now.claim.now))) }
+    ensures { IfOk result (λ facts. ForTerms terms.now (λ T. IsFactsOfClaim terms.now T
+        wanted.now.provider number wanted.now.place wanted.now.claim.now facts)) }
+{
+    claims_fit(terms);
+    let plan = compile(alloc, terms.plan())?;
+    let mut adjudicator = Adjudicator::new(alloc, &plan)?;
+    let case = find_case(alloc, terms, &mut adjudicator, wanted)?;
+    let provider = wanted.provider;
+    facts_of_case(
+        alloc,
+        terms,
+        &mut adjudicator,
+        provider,
+        number,
+        wanted.claim,
+        case,
+    )
+}
+
+/// No claim of the terms lacks the fields of the plan.
+pub(crate) fn claims_fit(terms: &Terms)
+    ensures { ClaimsFit terms.now }
 {
     // proof: the claim files have lists of claims, and these claims have the fields of the plan
     claim_lists_exist(terms);
     claims_have_the_plan_s_fields();
     let _names = terms.plan().names();
-    let plan = compile(alloc, terms.plan())?;
-    let mut adjudicator = Adjudicator::new(alloc, &plan)?;
-    match find_case(alloc, terms, &mut adjudicator, wanted)? {
-        Case::Accepted { position, acc } => {
+}
+
+/// Returns the facts of a claim in a case.
+pub(crate) fn facts_of_case<'v, 'p>(
+    alloc: Global,
+    terms: &Terms,
+    adjudicator: &mut Adjudicator<'v, CutPlan<'p>>,
+    provider: usize,
+    number: usize,
+    claim: &Claim,
+    case: Case,
+) -> Result<Facts, AllocError>
+    requires plan { adjudicator.old ≡ terms.now.plan }
+    requires likely { ¬ ¬ IsClaimOf terms.now.plan claim.now }
+    ensures facts { IfOk result (λ facts. facts
+        ≡ facts_of_case terms.now provider number claim.now case) }
+    ensures plan { OnOk result (adjudicator.new ≡ adjudicator.old) }
+{
+    match case {
+        Case::Accepted { position, before } => {
             facts_of_accepted(
                 alloc,
                 terms,
-                &mut adjudicator,
+                adjudicator,
+                provider,
                 number,
-                wanted,
+                claim,
                 position,
-                acc,
+                before,
             )
         }
-        Case::Late { cutoff } => facts_of_late(alloc, terms, number, wanted, cutoff),
+        Case::Late { cutoff } => facts_of_late(alloc, terms, provider, number, claim, cutoff),
     }
 }
 
 fn facts_of_late(
     alloc: Global,
     terms: &Terms,
+    provider: usize,
     number: usize,
-    wanted: &Wanted<'_>,
+    claim: &Claim,
     cutoff: u64,
 ) -> Result<Facts, AllocError>
-    ensures { IfOk result (λ facts. facts ≡ late_facts terms.now.plan.version
-        wanted.now.provider number wanted.now.claim.now cutoff) }
+    ensures { IfOk result (λ facts.
+        facts ≡ late_facts terms.now.plan.version provider number claim.now cutoff) }
 {
     let version = terms.plan().version();
     let mut facts = Facts::new(alloc);
-    add_place(&mut facts, wanted.provider, number)?;
-    add_claim(alloc, &mut facts, wanted.claim)?;
+    add_place(&mut facts, provider, number)?;
+    add_claim(alloc, &mut facts, claim)?;
     facts.add_number(b"this claim", b"late after the cutoff", cutoff as u128)?;
     let mut line = ByteRecord::new(alloc);
-    fill_claim(
-        alloc,
-        &mut line,
-        version,
-        wanted.provider,
-        number,
-        wanted.claim,
-        None,
-    )?;
+    fill_claim(alloc, &mut line, version, provider, number, claim, None)?;
     add_record(alloc, &mut facts, &line)?;
     Ok(facts)
 }
@@ -165,38 +195,33 @@ fn facts_of_accepted<'v, 'p>(
     alloc: Global,
     terms: &Terms,
     adjudicator: &mut Adjudicator<'v, CutPlan<'p>>,
+    provider: usize,
     number: usize,
-    wanted: &Wanted<'_>,
+    claim: &Claim,
     position: usize,
-    acc: Acc,
+    before: Standing,
 ) -> Result<Facts, AllocError>
     requires plan { adjudicator.old ≡ terms.now.plan }
-    requires likely { ¬ ¬ IsClaimOf terms.now.plan wanted.now.claim.now }
-    ensures { IfOk result (λ facts. facts ≡ decided_facts terms.now.plan
-        wanted.now.provider number wanted.now.claim.now position acc) }
+    requires likely { ¬ ¬ IsClaimOf terms.now.plan claim.now }
+    ensures facts { IfOk result (λ facts. facts
+        ≡ decided_facts terms.now.plan provider number claim.now position before) }
+    ensures plan { OnOk result (adjudicator.new ≡ adjudicator.old) }
 {
     let plan = terms.plan();
-    let claim = wanted.claim;
+    let Standing { acc, last } = before;
     let step = b"this claim";
     let position = position as u128 + 1;
     let decided = outcome_of(alloc, terms, adjudicator, claim, acc)?;
     let mut facts = Facts::new(alloc);
-    add_place(&mut facts, wanted.provider, number)?;
+    add_place(&mut facts, provider, number)?;
     add_claim(alloc, &mut facts, claim)?;
     facts.add_number(step, b"position in the order of acceptance", position)?;
-    add_accumulators(&mut facts, b"before this claim", claim, &acc)?;
+    add_before(&mut facts, claim, &acc, last)?;
     add_outcome(alloc, &mut facts, plan, claim, acc, &decided)?;
     let mut line = ByteRecord::new(alloc);
     let version = plan.version();
-    fill_claim(
-        alloc,
-        &mut line,
-        version,
-        wanted.provider,
-        number,
-        claim,
-        Some(&decided),
-    )?;
+    let outcome = Some(&decided);
+    fill_claim(alloc, &mut line, version, provider, number, claim, outcome)?;
     add_record(alloc, &mut facts, &line)?;
     Ok(facts)
 }

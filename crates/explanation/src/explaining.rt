@@ -1,23 +1,18 @@
-//! An explanation: it settles the claims of a family up to the claim that is explained, and
+//! The explanation of a record: it settles the claims of a family up to the claim that is explained, and
 //! writes how this claim is settled.
-ghost use Rattle.std.specs.Prelude.{◌≡◌, ◌≢◌, ◌↔◌, IfErr, IfOk, IsTrue, option_map};
+ghost use Rattle.std.specs.Prelude.{◌≢◌, IfErr, IfOk};
 ghost use Rattle.fixpoint.specs.Out.{writer_of};
-ghost use Rattle.dtable.specs.PlanFile.{IsPlanText};
-ghost use Rattle.evaluation.specs.declared.stop.ValueStop.TheVariants.{NoMemory};
-ghost use Rattle.explanation.specs.Explained.{IsExplainReason, IsTextOf, Writes, explained_texts};
-ghost use Rattle.explanation.specs.Explanation.{IsPlace, IsTextOver};
+ghost use Rattle.explanation.specs.Explained.{IsExplainReason, Writes, explained_texts};
 
-use crate::claim_facts::facts_of_row;
-use crate::format::{Format, facts_text};
-use crate::row::{Place, find_row};
+use crate::asked::{Asked, Target, explanation};
+use crate::format::Format;
+use crate::row::Place;
 use adjudicate::Stop;
-use claim_gate::{Order, Terms};
-use dtable::read_plan;
+use claim_gate::Order;
 use evaluation::ValueStop;
 use fixpoint::{Out, ShortWrite, put_all};
-use std::alloc::{AllocError, Global};
+use std::alloc::Global;
 use std::io::Write;
-use tables::Plan;
 
 /// The input of an explanation.
 #[derive(Clone, Copy)]
@@ -61,75 +56,20 @@ pub fn do_explain<W: Write>(
         (W.contents (writer_of out.old)) (W.contents (writer_of out.new))) }
     ensures reason { IfErr result (IsExplainReason (explained_texts input.entry)) }
 {
-    let Some(text) = explanation(alloc, input)? else {
+    let asked = Asked {
+        plan: input.plan,
+        balances: input.balances,
+        files: input.files,
+        cutoff: input.cutoff,
+        order: input.order,
+        target: Target::Record(input.place),
+        format: input.format,
+    };
+    let Some(text) = explanation(alloc, asked)? else {
         return Ok(Explained::NoRecord);
     };
     match put_all(text.as_slice(), out) {
         Ok(()) => Ok(Explained::Whole),
         Err(ShortWrite { written }) => Err(Stop::Value(ValueStop::Write { written })),
     }
-}
-
-// Returns the text of the explanation, or `None` if the files have no record at the place.
-fn explanation(alloc: Global, input: ExplainInput) -> Result<Option<Vec<u8>>, Stop>
-    requires ordered { input.order ≢ Order.Any }
-    ensures text { IfOk result (λ text. IsTextOf input.entry.order (explained_texts input.entry)
-        input.entry.place input.entry.format (option_map (λ t. t.items) text)) }
-    ensures reason { IfErr result (IsExplainReason (explained_texts input.entry)) }
-{
-    let plan = read_plan(alloc, input.plan)?;
-    let text = explanation_under(alloc, &plan, input);
-    drop(plan);
-    text
-}
-
-// Continues `explanation` after the plan is read.
-fn explanation_under(
-    alloc: Global,
-    plan: &Plan,
-    input: ExplainInput,
-) -> Result<Option<Vec<u8>>, Stop>
-    requires ordered { input.order ≢ Order.Any }
-    requires spelled { IsPlanText (explained_texts input).plan plan.now }
-    ensures text { IfOk result (λ text. IsTextOf input.entry.order (explained_texts input.entry)
-        input.entry.place input.entry.format (option_map (λ t. t.items) text)) }
-    ensures reason { IfErr result (IsExplainReason (explained_texts input.entry)) }
-{
-    let terms = Terms::with_order(
-        alloc,
-        plan,
-        input.files,
-        input.balances,
-        input.cutoff,
-        input.order,
-    )?;
-    let text = explanation_over(alloc, &terms, input.place, input.format);
-    drop(terms);
-    Ok(text?)
-}
-
-fn explanation_over(
-    alloc: Global,
-    terms: &Terms,
-    place: Place,
-    format: Format,
-) -> Result<Option<Vec<u8>>, AllocError>
-    requires { terms.now.order ≢ Order.Any }
-    ensures { IfOk result (λ text.
-        IsTextOver terms.now place format (option_map (λ t. t.items) text)) }
-{
-    if !is_place(terms, place) {
-        return Ok(None);
-    }
-    let Some(row) = find_row(alloc, terms, place)? else {
-        return Ok(None);
-    };
-    let facts = facts_of_row(alloc, terms, place, &row)?;
-    Ok(Some(facts_text(alloc, format, facts.as_slice())?))
-}
-
-fn is_place(terms: &Terms, place: Place) -> bool
-    ensures { IsTrue result ↔ IsPlace terms.now place }
-{
-    1 <= place.provider && place.provider <= terms.files().len() && 1 <= place.number
 }

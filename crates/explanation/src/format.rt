@@ -1,5 +1,5 @@
 //! The texts of facts: lines for a reader, or records for a program.
-ghost use Rattle.std.specs.Prelude.{◌≡◌, ◌++◌, ◌∷◌, [], IfOk, OnOk, map};
+ghost use Rattle.std.specs.Prelude.{◌≡◌, ◌++◌, ◌∷◌, [], flat_map, IfOk, OnOk, map};
 ghost use Rattle.explanation.specs.Facts.{fact_line, fact_record, fact_text, facts_text, head_text, shown};
 
 use crate::fact::Fact;
@@ -25,13 +25,28 @@ pub(crate) fn facts_text(
     ensures { IfOk result (λ text. text.items ≡ facts_text format facts.now) }
 {
     let mut text = Vec::from_slice(alloc, head_of(format))?;
-    for fact in facts {
-        append_fact(alloc, &mut text, format, fact)?;
-    }
+    append_facts(alloc, &mut text, format, facts)?;
     Ok(text)
 }
 
-fn head_of(format: Format) -> &'static [u8]
+/// Appends the facts, without a header.
+pub(crate) fn append_facts(
+    alloc: Global,
+    text: &mut Vec<u8>,
+    format: Format,
+    facts: &[Fact],
+) -> Result<(), AllocError>
+    ensures { OnOk result (text.new.items
+        ≡ text.old.items ++ flat_map (fact_text format) facts.now) }
+{
+    for fact in facts {
+        append_fact(alloc, text, format, fact)?;
+    }
+    Ok(())
+}
+
+/// Returns the header of the records, with its line end.
+pub(crate) fn head_of(format: Format) -> &'static [u8]
     ensures { result.now ≡ head_text format }
 {
     match format {

@@ -2,11 +2,10 @@
 ghost use Rattle.std.specs.Prelude.{◌≡◌, ◌∷◌, [], false, codes, decimal, replicate, IfOk, OnOk, option_map};
 ghost use Rattle.csv.specs.Records.{fields_of};
 ghost use Rattle.csv.specs.Writing.{fields_written, has_written, writer_pending, writer_setup, writer_under};
-ghost use Rattle.fixpoint.specs.Money.{money_text};
 ghost use Rattle.faults.specs.ReasonText.{reason_text};
 ghost use Rattle.remit.specs.FieldTexts.{remarks_text};
 ghost use Rattle.remit.specs.RecordWriter.{Pushes};
-ghost use Rattle.remit.specs.Records.{amounts_of, family_fields, id_column_fields, reported_by, reported_of, reported_refused, status_fields, whose_fields, year_fields};
+ghost use Rattle.remit.specs.Records.{amounts_of, id_column_fields, reported_by, reported_of, reported_refused, status_fields, whose_fields};
 ghost use Rattle.remit.specs.Report.{record_text, report_style};
 ghost use Rattle.explanation.specs.Steps.{claim_record, refused_record};
 
@@ -15,7 +14,8 @@ use csv::{ByteRecord, Terminator, Writer, WriterBuilder};
 use feel_tests::{day_year, year_text};
 use intake_csv::RowFault;
 use itoa::Buffer;
-use settlement::{Claim, Money, Outcome, Reason, Verdict};
+use remit::{push_family, push_money, push_year};
+use settlement::{Claim, Outcome, Reason, Verdict};
 use std::alloc::{AllocError, Global};
 use tables::{has_families, has_years};
 
@@ -119,26 +119,6 @@ fn push_whose(
     push_year(line, has_years(version), year)
 }
 
-fn push_family(line: &mut ByteRecord, families: bool, family: &[u8]) -> Result<(), AllocError>
-    ensures { OnOk result (Pushes line.old line.new (family_fields families family.now)) }
-{
-    if families {
-        line.push_field(family)
-    } else {
-        Ok(())
-    }
-}
-
-fn push_year(line: &mut ByteRecord, keeps_years: bool, year: &[u8]) -> Result<(), AllocError>
-    ensures { OnOk result (Pushes line.old line.new (year_fields keeps_years year.now)) }
-{
-    if keeps_years {
-        line.push_field(year)
-    } else {
-        Ok(())
-    }
-}
-
 // Appends the status and all that follows it. A claim without an outcome was late.
 fn push_claim(
     alloc: Global,
@@ -224,14 +204,6 @@ fn push_number(line: &mut ByteRecord, number: usize) -> Result<(), AllocError>
     ensures { OnOk result (Pushes line.old line.new (decimal number ∷ [])) }
 {
     line.push_field(Buffer::new().format(number).as_bytes())
-}
-
-fn push_money(line: &mut ByteRecord, money: Money) -> Result<(), AllocError>
-    ensures { OnOk result (Pushes line.old line.new (money_text money ∷ [])) }
-{
-    let mut buffer = [0; 24];
-    let length = money.amount().write_money(&mut buffer);
-    line.push_field(&buffer[..length])
 }
 
 fn push_repeated(line: &mut ByteRecord, field: &[u8], times: usize) -> Result<(), AllocError>

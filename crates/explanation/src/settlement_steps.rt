@@ -1,14 +1,15 @@
 //! The facts of a claim, of its accumulators and of the steps of its settlement.
-ghost use Rattle.std.specs.Prelude.{◌≡◌, ◌++◌, IfOk, OnOk};
+ghost use Rattle.std.specs.Prelude.{◌≡◌, ◌++◌, codes, IfOk, OnOk};
 ghost use Rattle.std.specs.Option.{option_copied};
 ghost use Rattle.feel_tests.specs.Value.{literal_text};
 ghost use Rattle.feel_tests.specs.declared.value.Value.TheVariants.{Day};
 ghost use Rattle.fixpoint.specs.Money.{is_money};
 ghost use Rattle.settlement.specs.Roles.{units_where, value_of};
 ghost use Rattle.settlement.specs.Settlement.{remaining};
-ghost use Rattle.explanation.specs.Steps.{accumulator_facts, amount_facts, claim_facts, family_deductible, family_left, family_maximum, family_role_facts, paid_facts, place_facts, role_facts, roles_facts, verdict_text};
+ghost use Rattle.explanation.specs.Steps.{accumulator_facts, amount_facts, before_facts, claim_facts, family_deductible, family_left, family_maximum, family_role_facts, paid_facts, place_facts, role_facts, roles_facts, verdict_text};
 
 use crate::fact::Facts;
+use crate::row::Place;
 use crate::words::reason_text;
 use feel_tests::Value;
 use settlement::{Acc, Claim, Money, Outcome, Verdict};
@@ -62,6 +63,26 @@ pub(crate) fn add_accumulators(
     }
     facts.add_money(step, b"met of the family's deductible", acc.fmet)?;
     facts.add_money(step, b"paid out of pocket by the family", acc.foop)
+}
+
+/// Adds what the claim's account has before the claim: its accumulators, and the record of its last
+/// claim, if there is one.
+pub(crate) fn add_before(
+    facts: &mut Facts,
+    claim: &Claim,
+    acc: &Acc,
+    last: Option<Place>,
+) -> Result<(), AllocError>
+    ensures { OnOk result (facts.new ≡ facts.old ++ before_facts (codes "before this claim")
+        claim.now.family (record { acc = acc.now; last = last })) }
+{
+    let step = b"before this claim";
+    add_accumulators(facts, step, claim, acc)?;
+    let Some(place) = last else {
+        return Ok(());
+    };
+    facts.add_number(step, b"after file", place.provider as u128)?;
+    facts.add_number(step, b"after record", place.number as u128)
 }
 
 /// Adds the values of the roles.

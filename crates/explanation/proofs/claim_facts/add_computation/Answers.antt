@@ -1,4 +1,3 @@
-use Rattle.std.proofs.Common.{sym, ◌∙◌}
 use Rattle.std.proofs.lemmas.Result.{on_ok_weaker}
 use Rattle.explanation.proofs.Appending.{computed, stopped}
 use Rattle.explanation.proofs.claim_facts.add_computation.Goals as goal

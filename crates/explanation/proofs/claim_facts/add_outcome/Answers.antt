@@ -1,4 +1,3 @@
-use Rattle.std.proofs.Common.{sym, ap, ◌∙◌}
 use Rattle.std.proofs.lemmas.Result.{on_ok_weaker}
 use Rattle.explanation.proofs.Appending.{three}
 use Rattle.explanation.proofs.claim_facts.add_outcome.Goals as goal

@@ -1,4 +1,4 @@
-use Rattle.std.proofs.Common.{◌≡◌, ◌<◌, ◌≤◌, length, get_or, ap, refl, subst, sym, ◌∙◌, arith}
+use Rattle.std.proofs.Common.{◌<◌, ◌≤◌, length, get_or, ap, refl, subst, sym, ◌∙◌, arith}
 use Rattle.settlement.specs.Bindings.{values_given}
 use Rattle.settlement.proofs.AllBound.{kinds_given}
 use Rattle.explanation.proofs.Binding.{all_filled, filled_none, more_filled, takes_next}

@@ -1,4 +1,4 @@
-use Rattle.std.proofs.Common.{◌≡◌, ◌++◌, [], ◌∷◌, take}
+use Rattle.std.proofs.Common.{◌≡◌, ◌∷◌, take}
 use Rattle.feel_tests.specs.declared.value.Value.TheVariants.{Number, Text, Day}
 use Rattle.settlement.specs.Bindings.{after_family}
 use Rattle.explanation.proofs.given.values_of.Given as goal

@@ -1,4 +1,4 @@
-use Rattle.std.proofs.Common.{◌≡◌, [], false, is_err, rules}
+use Rattle.std.proofs.Common.{◌≡◌, false, is_err, rules}
 use Rattle.remit.proofs.Holding.{on-ok}
 use Rattle.explanation.proofs.Records.{record_made}
 use Rattle.explanation.proofs.record.record_line.Goals as goal

@@ -1,5 +1,5 @@
 use Rattle.std.proofs.Common.{[], ◌-◌, get_or}
-use Rattle.explanation.proofs.Rows.{IsPast}
+use Rattle.explanation.specs.Walking.{IsPast}
 use Rattle.explanation.proofs.row.find_row.Given as goal
 
 -- the reader is past the records so far

@@ -1,5 +1,4 @@
 use Rattle.std.proofs.lemmas.Result.{on_ok_weaker}
-use Rattle.explanation.specs.Steps.{family_left}
 use Rattle.explanation.proofs.Appending.{ten}
 use Rattle.explanation.proofs.settlement_steps.add_paid.Goals as goal
 

@@ -1,0 +1,8 @@
+use Rattle.std.proofs.Common.{rules}
+use Rattle.explanation.proofs.search.case_of.Goals as goal
+
+pub returns-clause-case : goal.returns-clause-case
+returns-clause-case c = search rules
+
+pub returns-then-cutoff-position-clause-case : goal.returns-then-cutoff-position-clause-case
+returns-then-cutoff-position-clause-case c = search rules

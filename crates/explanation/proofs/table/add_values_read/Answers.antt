@@ -1,0 +1,6 @@
+use Rattle.std.proofs.Common.{arith}
+use Rattle.std.proofs.lemmas.Grind.{common_steps}
+use Rattle.explanation.proofs.table.add_values_read.Goals as goal
+
+pub loop-input-preserved : goal.loop-input-preserved
+loop-input-preserved c = grind (arith, common_steps)
