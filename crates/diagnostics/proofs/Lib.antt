@@ -1,3 +1,2 @@
-pub mod PrintableTexts
 pub mod OneEdits
 pub mod Positions

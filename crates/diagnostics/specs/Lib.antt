@@ -1,3 +1,2 @@
-pub mod Printable
 pub mod Edits
 pub mod Position

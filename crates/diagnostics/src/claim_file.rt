@@ -103,15 +103,16 @@ fn explain_record_at<'n>(
     explain_at(alloc, place, &values, words)
 }
 
-// Column 0 is the record as a whole, which has no name.
-fn column_name(header: &ByteRecord, column: usize) -> &str {
+/// The name of a column. Column 0 is the record as a whole, which has no name.
+pub fn column_name(header: &ByteRecord, column: usize) -> &str {
     match header.get(column.saturating_sub(1)) {
         Some(field) if column > 0 => str::from_utf8(field).unwrap_or(""),
         _ => "",
     }
 }
 
-fn header_of(alloc: Global, text: &[u8]) -> Result<ByteRecord, AllocError> {
+/// The header of a file.
+pub fn header_of(alloc: Global, text: &[u8]) -> Result<ByteRecord, AllocError> {
     let mut header = ByteRecord::new(alloc);
     let mut reader = ReaderBuilder::new()
         .has_headers(false)

@@ -3,7 +3,8 @@
 //!
 //! Begin with `texts.rt`, `file_texts.rt` and `system_texts.rt`, which have the texts as functions over the enums of the faults; `scripts/faults` prints
 //! the list of all faults from them. `message.rt` composes the lines. `plan.rt`, `table.rt`, `argument.rt` and `claim_file.rt` explain a fault of a
-//! plan, of the tables, of an argument and of a file. `plan_node.rt` finds the value of the plan's document at a fault's place by its path
+//! plan, of the tables, of an argument and of a file, and `refused_record.rt` why records were refused. `role_entries.rt` finds entries that pend each claim that
+//! gets them. `plan_node.rt` finds the value of the plan's document at a fault's place by its path
 //! (`value_path.rt`), `hints.rt` says what is wrong there, and `input_name.rt` what the name of an input is. `shape.rt` has the keys of a plan and the
 //! types of their values.
 //!
@@ -12,8 +13,7 @@
 //! column (`kind.rt`). To mend one more mistake, add a row there, and a line to `tests/program/cells.tsv`.
 //!
 //! `scanner.rt` finds the offset of each key and value of a TOML text with the tokens of `toml_parser`, `places.rt` has the offsets, and `position.rt`
-//! counts lines and columns. `unread.rt` compares the keys with those of a plan, and `edits.rt` finds misspellings. `sanitize.rt` replaces control
-//! characters, which a terminal would obey.
+//! counts lines and columns. `unread.rt` compares the keys with those of a plan, and `edits.rt` finds misspellings.
 #![tactic(auto)]
 
 mod advice;
@@ -34,8 +34,9 @@ mod places;
 mod plan;
 mod plan_node;
 mod position;
+mod refused_record;
+mod role_entries;
 mod row;
-mod sanitize;
 mod scanner;
 mod shape;
 mod system_texts;
@@ -53,7 +54,9 @@ pub use message::{Message, explain, explain_unusable_file};
 pub use places::{Places, Step};
 pub use plan::explain_plan;
 pub use position::{Position, position_of};
-pub use sanitize::push_printable;
+pub use printable::push_printable;
+pub use refused_record::explain_refused_record;
+pub use role_entries::explain_role_entries;
 pub use scanner::places_of;
 pub use system_texts::{
     argument_given_twice, argument_of_unknown_name, argument_without_equals, memory, missing_value,

@@ -3,9 +3,9 @@
 use crate::advice::Advice;
 use crate::places::Step;
 use crate::position::position_of;
-use crate::sanitize::push_printable;
 use crate::scanner::places_of;
 use crate::texts::Explanation;
+use printable::push_printable;
 use std::alloc::{AllocError, Global};
 
 /// The most bytes that are shown of a word, and of a line before its mark and after it.
@@ -137,7 +137,7 @@ impl Message {
         self.text.push_str(rest)
     }
 
-    // U+FFFD replaces each control character of a word.
+    // U+FFFD replaces each character of a word that a terminal would obey or not show.
     fn add_value(&mut self, value: Part<'_>) -> Result<(), AllocError> {
         match value {
             Part::Word(word) => push_printable(&mut self.text, word),

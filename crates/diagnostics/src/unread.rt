@@ -1,6 +1,6 @@
 //! Finds the unknown keys of a plan's text.
 
-use crate::message::{Message, Part};
+use crate::message::{Message, Part, dots_if, shown_front};
 use crate::places::Node;
 use crate::plan_node::{document_of, version_of};
 use crate::position::{Position, Positions};
@@ -50,11 +50,13 @@ fn add_unknown_key(
     near: Option<&'static str>,
 ) -> Result<(), AllocError> {
     let sentence = match near {
-        Some(_) => "unknown key `{}` at line {} column {}; did you mean `{}`?\n",
-        None => "unknown key `{}` at line {} column {}\n",
+        Some(_) => "unknown key `{}{}` at line {} column {}; did you mean `{}`?\n",
+        None => "unknown key `{}{}` at line {} column {}\n",
     };
+    let shown = shown_front(key);
     let values = [
-        Part::Word(key),
+        Part::Word(shown),
+        Part::Word(dots_if(shown.len() < key.len())),
         Part::Number(position.line),
         Part::Number(position.column),
         Part::Word(near.unwrap_or("")),
