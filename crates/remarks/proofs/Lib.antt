@@ -1,0 +1,3 @@
+pub mod Places
+pub mod Scanning
+pub mod Marks

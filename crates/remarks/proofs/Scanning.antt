@@ -1,0 +1,100 @@
+-- A search for quoted fields that reads one more byte, and its end.
+use Rattle.std.proofs.Common.{◌≡◌, ◌≢◌, ◌⊎◌, ◌+◌, ℕ, true, List, Option, None, Some, MatchOption, unwrap_or, length, ap, sym, subst, inl, inr, ◌∙◌, arith}
+use native.Mathlib.Decide.{dec_lt}
+use Rattle.std.proofs.lemmas.List.{take_all}
+use Rattle.csv.specs.declared.parser.State.TheVariants as state
+use Rattle.remarks.specs.declared.scan.Place.{Place}
+use Rattle.remarks.specs.declared.scan.Place.TheVariants.{FieldStart, Quoted}
+use Rattle.remarks.specs.declared.scan.Scan.{Scan}
+use Rattle.remarks.specs.Quotes.{BreaksField, EndsLine, IsFirstBroken, OpensField, OpensLast, byte_at, quote, state_after, state_at}
+use Rattle.remarks.specs.Scans.{IsScanned, IsUnbroken, is_in_quotes, place_of}
+use Rattle.remarks.proofs.Places.{begins_at, place_at_start, place_in_quotes, quoted_at}
+
+-- a byte that opens no field leaves the last opened one
+still_opened : (text : List ℕ) (at opened : ℕ) → OpensLast text at opened → ¬ OpensField text at → OpensLast text (at + 1) opened
+still_opened text at opened known other = record {
+  opens = known.opens;
+  before = omega (arith, known.before);
+  last = λ later above below. elim (dec_lt later at) [
+    | yes earlier ↦ known.last later above earlier
+    | no not_earlier ↦ let same : later ≡ at = omega (arith, below, not_earlier) in subst (λ place. ¬ OpensField text place) (sym same) other
+  ];
+}
+
+newly_opened : (text : List ℕ) (at : ℕ) → OpensField text at → OpensLast text (at + 1) at
+newly_opened text at opens = record { opens = opens; before = omega arith; last = λ later above below. absurd (omega (arith, above, below)) }
+
+still_unbroken : (text : List ℕ) (at : ℕ) → ¬ BreaksField text at → IsUnbroken text at → IsUnbroken text (at + 1)
+still_unbroken text at other known place below =
+    elim (dec_lt place at) [
+      | yes earlier ↦ known place earlier
+      | no not_earlier ↦ let same : place ≡ at = omega (arith, below, not_earlier) in subst (λ it. ¬ BreaksField text it) (sym same) other
+    ]
+
+still_broken : (text : List ℕ) (at : ℕ) (first next : Option ℕ) → next ≡ first → ¬ BreaksField text at → MatchOption first (IsUnbroken text at) (IsFirstBroken text)
+    → MatchOption next (IsUnbroken text (at + 1)) (IsFirstBroken text)
+still_broken text at None next same other known = rw same (still_unbroken text at other known)
+still_broken text at (Some it) next same other known = rw same known
+
+newly_broken : (text : List ℕ) (at opened : ℕ) (first next : Option ℕ) → next ≡ Some (unwrap_or first opened) → BreaksField text at → OpensLast text at opened
+    → MatchOption first (IsUnbroken text at) (IsFirstBroken text) → MatchOption next (IsUnbroken text (at + 1)) (IsFirstBroken text)
+newly_broken text at opened None next is breaks opens known = rw is (record { break = at; breaks = breaks; first = known; opens = opens })
+newly_broken text at opened (Some it) next is breaks opens known = rw is known
+
+-- whether a byte opens or breaks a field, by its place
+no_opening : (text : List ℕ) (at : ℕ) (place : Place) → place_of (state_at text at) ≡ Some place → ¬ ((byte_at text at ≡ quote) × (place ≡ FieldStart)) → ¬ OpensField text at
+no_opening text at place stands other opens = other (opens.is_quote, place_at_start (state_at text at) place stands opens.begins)
+
+no_break : (text : List ℕ) (at : ℕ) (place : Place) → place_of (state_at text at) ≡ Some place → ¬ (EndsLine (byte_at text at) × (place ≡ Quoted)) → ¬ BreaksField text at
+no_break text at place stands other breaks = other (breaks.ends_line, place_in_quotes (state_at text at) place stands breaks.quoted)
+
+quote_ends_no_line : (byte : ℕ) → byte ≡ quote → ¬ EndsLine byte
+quote_ends_no_line byte is (inl feed) = absurd (omega (arith, is, feed))
+quote_ends_no_line byte is (inr cr) = absurd (omega (arith, is, cr))
+
+kept_open : (text : List ℕ) (at : ℕ) (scan : Scan) (next : Place) → IsScanned text at scan
+    → (is_in_quotes next ≡ true → (is_in_quotes scan.place ≡ true) ⊎ ((byte_at text at ≡ quote) × (scan.place ≡ FieldStart)))
+    → ¬ ((byte_at text at ≡ quote) × (scan.place ≡ FieldStart)) → is_in_quotes next ≡ true → OpensLast text (at + 1) scan.opened
+kept_open text at scan next known entered other within =
+    elim (entered within) [
+      | inl before ↦ still_opened text at scan.opened (known.opened before) (no_opening text at scan.place known.place other)
+      | inr opens ↦ absurd (other opens)
+    ]
+
+-- the byte opens a field
+pub scanned_opening : (text : List ℕ) (at : ℕ) (old new : Scan) → IsScanned text at old → place_of (state_at text (at + 1)) ≡ Some new.place → new.opened ≡ at
+    → new.first_long ≡ old.first_long → (byte_at text at ≡ quote) × (old.place ≡ FieldStart) → IsScanned text (at + 1) new
+scanned_opening text at old new known stands opened first opens = record {
+  place = stands;
+  opened = λ within. rw opened (newly_opened text at (record { is_quote = opens.0; begins = begins_at (state_at text at) (known.place ∙ ap (λ it. Some it) opens.1) }));
+  broken = still_broken text at old.first_long new.first_long first (λ breaks. quote_ends_no_line (byte_at text at) opens.0 breaks.ends_line) known.broken;
+}
+
+-- the byte is a line end within a quoted field
+pub scanned_breaking : (text : List ℕ) (at : ℕ) (old new : Scan) → IsScanned text at old → place_of (state_at text (at + 1)) ≡ Some new.place → new.opened ≡ old.opened
+    → new.first_long ≡ Some (unwrap_or old.first_long old.opened)
+    → (is_in_quotes new.place ≡ true → (is_in_quotes old.place ≡ true) ⊎ ((byte_at text at ≡ quote) × (old.place ≡ FieldStart)))
+    → ¬ ((byte_at text at ≡ quote) × (old.place ≡ FieldStart)) → EndsLine (byte_at text at) × (old.place ≡ Quoted) → IsScanned text (at + 1) new
+scanned_breaking text at old new known stands opened first entered other breaks = record {
+  place = stands;
+  opened = λ within. rw opened (kept_open text at old new.place known entered other within);
+  broken = newly_broken text at old.opened old.first_long new.first_long first
+      (record { ends_line = breaks.0; quoted = quoted_at (state_at text at) (known.place ∙ ap (λ it. Some it) breaks.1) }) (known.opened (ap is_in_quotes breaks.1)) known.broken;
+}
+
+-- any other byte
+pub scanned_other : (text : List ℕ) (at : ℕ) (old new : Scan) → IsScanned text at old → place_of (state_at text (at + 1)) ≡ Some new.place → new.opened ≡ old.opened
+    → new.first_long ≡ old.first_long → (is_in_quotes new.place ≡ true → (is_in_quotes old.place ≡ true) ⊎ ((byte_at text at ≡ quote) × (old.place ≡ FieldStart)))
+    → ¬ ((byte_at text at ≡ quote) × (old.place ≡ FieldStart)) → ¬ (EndsLine (byte_at text at) × (old.place ≡ Quoted)) → IsScanned text (at + 1) new
+scanned_other text at old new known stands opened first entered other whole = record {
+  place = stands;
+  opened = λ within. rw opened (kept_open text at old new.place known entered other within);
+  broken = still_broken text at old.first_long new.first_long first (no_break text at old.place known.place whole) known.broken;
+}
+
+whole : (text : List ℕ) → state_at text (length text) ≡ state_after state.StartRecord text
+whole text = ap (state_after state.StartRecord) (take_all (length text) text (omega arith))
+
+-- a text without quotes
+pub without_quote_closed : (text : List ℕ) → ((at : ℕ) → state_at text at ≢ state.InQuoted) → state_after state.StartRecord text ≢ state.InQuoted
+without_quote_closed text never is = never (length text) (whole text ∙ is)
