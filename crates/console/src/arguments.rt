@@ -1,23 +1,26 @@
 //! The arguments of the commands, with their help.
 
-ghost use Rattle.std.specs.Prelude.{◌≡◌, ◌∷◌, [], true};
+ghost use Rattle.std.specs.Prelude.{◌≡◌, ◌∷◌, [], true, IfOk};
 ghost use Rattle.clap.specs.Words.{parser_of};
 ghost use Rattle.clap.specs.declared.builder.value_parser.ValueParser.TheVariants.{Unsigned};
 ghost use Rattle.console.specs.Limits.{TakesWords, cutoff_limit};
 
 use crate::names::{
-    ASSIGNMENT, BALANCES, BY_FILES, BY_SERVICE, CLOSING, CUTOFF, FILE, ORDER, OUTPUT, PLAN,
-    REMITTANCE, WORKERS,
+    AS_CSV, AS_TEXT, ASSIGNMENT, BALANCES, BY_FILES, BY_SERVICE, CLAIM_ID, CLOSING, CUTOFF,
+    EXPLAINED, FAMILY, FILE, FORMAT, MEMBER, ORDER, OUTPUT, PLAN, RECORD, REMITTANCE, WORKERS,
 };
 use clap::builder::ValueParser;
-use clap::{Arg, ArgAction};
-use std::alloc::Global;
+use clap::{Arg, ArgAction, ArgGroup};
+use std::alloc::{AllocError, Global};
 
 /// The greatest value of `--cutoff`.
 const CUTOFF_LIMIT: u64 = 1_000_000_000;
 
 /// The values of `--order`.
 static ORDERS: [&str; 2] = [BY_FILES, BY_SERVICE];
+
+/// The values of `--format`.
+static FORMATS: [&str; 2] = [AS_TEXT, AS_CSV];
 
 /// The plan file, a required argument of every command.
 pub fn plan_argument<'a>(alloc: Global) -> Arg<'a>
@@ -89,6 +92,49 @@ pub fn remittance_argument<'a>(alloc: Global) -> Arg<'a>
         .long("remittance")
         .help("The remittance to audit, CSV")
         .required(true)
+}
+
+/// The record that is explained: the number of its file, and its number in the file.
+pub fn record_argument<'a>(alloc: Global) -> Arg<'a> {
+    let help = "Explain this record, by the first two fields of the remittance, such as 2:17";
+    explained_argument(alloc, RECORD, "claim", "FILE:RECORD", help)
+}
+
+/// An argument that says what is explained.
+pub fn explained_argument<'a>(
+    alloc: Global,
+    name: &'a str,
+    long: &'a str,
+    value_name: &'a str,
+    help: &'a str,
+) -> Arg<'a> {
+    Arg::new(alloc, name)
+        .long(long)
+        .value_name(value_name)
+        .help(help)
+}
+
+/// The arguments that say what is explained. Exactly one of them is needed.
+pub fn explained_group<'a>(alloc: Global) -> Result<ArgGroup<'a>, AllocError>
+    ensures needed { IfOk result (λ group. group.required ≡ true) }
+{
+    ArgGroup::new(alloc, EXPLAINED)
+        .required(true)
+        .arg(RECORD)?
+        .arg(CLAIM_ID)?
+        .arg(MEMBER)?
+        .arg(FAMILY)
+}
+
+/// The format of an explanation.
+pub fn format_argument<'a>(alloc: Global) -> Arg<'a>
+    ensures { TakesWords (AS_TEXT.now ∷ AS_CSV.now ∷ []) (parser_of result) }
+{
+    Arg::new(alloc, FORMAT)
+        .long("format")
+        .value_name("FORMAT")
+        .value_parser(ValueParser::Names(FORMATS.as_slice()))
+        .help("Print lines of text, which is the default, or CSV records")
 }
 
 /// The number of worker threads, from 1 to the limit.

@@ -1,19 +1,17 @@
 //! Replaces a file of the system atomically.
 
-ghost use Rattle.std.specs.Prelude.{◌≡◌, ◌/◌, bit_and, bit_or, false, true};
+ghost use Rattle.std.specs.Prelude.{◌≡◌, ◌≢◌, ◌⊎◌, ◌↔◌, ◌/◌, bit_and, bit_or, false, true};
 
 use crate::atomic_target::AtomicTarget;
+use crate::paths::{file_at, folder_and_name, led_to};
+use crate::unfinished::unfinished_path;
 use std::fs::{Metadata, OpenFile, OpenOptions, Permissions};
 use std::os::unix::fs::{MetadataExt, OpenOptionsExt, PermissionsExt};
-use std::path::PathBuf;
 use std::rt::Files;
 use std::{fs, io};
 
-/// The number of names that are tried for the new file.
-const NAMES: u32 = 100;
-
-/// The number of links that are followed in a row, as many as Linux follows.
-const LINKS: u32 = 40;
+/// The number of names that are tried for the new file. The files that interrupted commands have left never take all of them.
+const NAMES: u32 = 1_000_000;
 
 /// The mode of a file that did not exist before; the process's umask applies.
 const NEW_MODE: u32 = 0o666;
@@ -38,15 +36,18 @@ impl<'a, R: Files + AllocGlobal> AtomicFile<'a, R> {
         let old = file_at(files, path)?;
         Ok(AtomicFile {
             files,
-            path: led_to(files, path)?.into_string(),
+            path: led_to(files, path)?,
             old,
             beside: String::new(files.alloc()),
         })
     }
 
-    // Several runs may write to the same path, so an existing name is left alone.
+    fn folder(&self) -> &str {
+        folder_and_name(self.path.as_str()).0
+    }
+
+    // Several runs may write to the same folder, so an existing name is left alone.
     fn create(&mut self) -> io::Result<R::File> {
-        let path = self.path.as_str();
         let mode = if self.old.is_some() {
             PRIVATE_MODE
         } else {
@@ -54,7 +55,7 @@ impl<'a, R: Files + AllocGlobal> AtomicFile<'a, R> {
         };
         let mut last = io::Error::from(io::ErrorKind::AlreadyExists);
         for number in 0..NAMES {
-            self.beside = format!(in self.files.alloc(); "{path}.new{number}")?;
+            self.beside = unfinished_path(self.files.alloc(), self.folder(), number)?;
             match create_new(self.files, self.beside.as_str(), mode) {
                 Err(fault) if fault.kind() == io::ErrorKind::AlreadyExists => last = fault,
                 done => return done,
@@ -68,62 +69,42 @@ impl<'a, R: Files + AllocGlobal> AtomicFile<'a, R> {
         let _ = fs::remove_file(self.files, self.beside.as_str());
     }
 
+    // Prepares the replacement of a file. The system would replace a file without asking for the right to write to it, and would report a file that
+    // may not be replaced only in the end.
+    fn prepare(&self, file: &R::File, old: &Metadata) -> io::Result<()> {
+        let mut options = OpenOptions::new();
+        options.write(true);
+        options.open(self.files, self.path.as_str())?;
+        let folder = fs::metadata(self.files, self.folder())?;
+        let user = file.metadata()?.uid();
+        if !may_replace(user, old.uid(), folder.uid(), folder.mode()) {
+            return Err(io::Error::from(io::ErrorKind::PermissionDenied));
+        }
+        take_access(self.files, self.beside.as_str(), file, old)
+    }
+
+    // Whether the new file still has its name. A command that could not lock the folder loses the file to one that removes what is left over.
+    fn has_name(&self, file: &R::File) -> bool {
+        match (
+            fs::metadata(self.files, self.beside.as_str()),
+            file.metadata(),
+        ) {
+            (Ok(there), Ok(ours)) => there.dev() == ours.dev() && there.ino() == ours.ino(),
+            _ => false,
+        }
+    }
+
+    fn put(&self, text: &R::File) -> io::Result<()> {
+        text.sync_all()?;
+        fs::rename(self.files, self.beside.as_str(), self.path.as_str())
+    }
+
     // The rename itself must reach the device, too; some file systems cannot sync a folder.
     fn sync_folder(&self) {
-        let folder = match self.path.rfind('/') {
-            Some(0) => "/",
-            Some(end) => &self.path[..end],
-            None => ".",
-        };
-        if let Ok(folder) = fs::open(self.files, folder) {
+        if let Ok(folder) = fs::open(self.files, self.folder()) {
             let _ = folder.sync_all();
         }
     }
-}
-
-fn file_at<R: Files>(files: &R, path: &str) -> io::Result<Option<Metadata>> {
-    match metadata_if_there(fs::metadata(files, path))? {
-        Some(there) if !there.is_file() => Err(io::Error::new(
-            io::ErrorKind::InvalidInput,
-            "not a regular file",
-        )),
-        there => Ok(there),
-    }
-}
-
-// It is no error that nothing is there.
-fn metadata_if_there(there: io::Result<Metadata>) -> io::Result<Option<Metadata>> {
-    match there {
-        Ok(there) => Ok(Some(there)),
-        Err(fault) if fault.kind() == io::ErrorKind::NotFound => Ok(None),
-        Err(fault) => Err(fault),
-    }
-}
-
-// The end of a path's links, whether a file exists there or not.
-fn led_to<R: Files + AllocGlobal>(files: &R, path: &str) -> io::Result<PathBuf> {
-    let mut path = PathBuf::from_str(files.alloc(), path)?;
-    for _ in 0..=LINKS {
-        if !follow(files, &mut path)? {
-            return Ok(path);
-        }
-    }
-    Err(io::Error::from(io::ErrorKind::FilesystemLoop))
-}
-
-// Replaces the path of a link by that of its target. Returns false if there is no link at the path.
-fn follow<R: Files + AllocGlobal>(files: &R, path: &mut PathBuf) -> io::Result<bool> {
-    let is_link = match metadata_if_there(fs::symlink_metadata(files, &*path))? {
-        Some(there) => there.is_symlink(),
-        None => false,
-    };
-    if is_link {
-        let target = fs::read_link(files, &*path)?;
-        // A relative target is relative to the link's folder.
-        path.pop();
-        path.push(&target)?;
-    }
-    Ok(is_link)
 }
 
 fn create_new<R: Files>(files: &R, path: &str, mode: u32) -> io::Result<R::File> {
@@ -157,13 +138,28 @@ fn mode_after(mode: u32, keeps_group: bool) -> u32
     (mode & 0o700) | (mode & group_as_others & 0o007)
 }
 
+/// The flag of a folder in which only root and the owners of the folder and of a file replace that file.
+const RESTRICTED: u32 = 0o1000;
+
+/// Whether the system lets a user replace a file of this owner in a folder of this owner and mode to which the user may write.
+fn may_replace(user: u32, file_owner: u32, folder_owner: u32, folder_mode: u32) -> bool
+    ensures free { bit_and folder_mode 0o1000 ≡ 0 → result ≡ true }
+    ensures restricted { bit_and folder_mode 0o1000 ≢ 0
+        → (result ≡ true ↔ ((user ≡ 0) ⊎ ((user ≡ file_owner) ⊎ (user ≡ folder_owner)))) }
+{
+    if folder_mode & RESTRICTED == 0 {
+        return true;
+    }
+    user == 0 || user == file_owner || user == folder_owner
+}
+
 impl<R: Files + AllocGlobal> AtomicTarget for AtomicFile<'_, R> {
     type Text = R::File;
 
     fn begin(&mut self) -> io::Result<R::File> {
         let file = self.create()?;
         if let Some(old) = self.old.take()
-            && let Err(fault) = take_access(self.files, self.beside.as_str(), &file, &old)
+            && let Err(fault) = self.prepare(&file, &old)
         {
             self.remove();
             return Err(fault);
@@ -172,10 +168,10 @@ impl<R: Files + AllocGlobal> AtomicTarget for AtomicFile<'_, R> {
     }
 
     fn commit(&mut self, text: R::File) -> io::Result<()> {
-        let done = match text.sync_all() {
-            Ok(()) => fs::rename(self.files, self.beside.as_str(), self.path.as_str()),
-            Err(fault) => Err(fault),
-        };
+        if !self.has_name(&text) {
+            return Err(io::Error::from(io::ErrorKind::NotFound));
+        }
+        let done = self.put(&text);
         match done {
             Ok(()) => self.sync_folder(),
             Err(_) => self.remove(),
@@ -183,7 +179,9 @@ impl<R: Files + AllocGlobal> AtomicTarget for AtomicFile<'_, R> {
         done
     }
 
-    fn discard(&mut self, _text: R::File) {
-        self.remove();
+    fn discard(&mut self, text: R::File) {
+        if self.has_name(&text) {
+            self.remove();
+        }
     }
 }

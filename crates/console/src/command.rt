@@ -5,12 +5,17 @@ ghost use Rattle.clap.specs.Words.{AddsSubcommand, subcommand_names};
 ghost use Rattle.clap.specs.declared.builder.command.Command.TheViews.{out-Command as fields_of};
 
 use crate::arguments::{
-    assignment_argument, balances_argument, closing_argument, cutoff_argument, files_argument,
-    flag_argument, order_argument, output_argument, plan_argument, remittance_argument,
-    workers_argument,
+    assignment_argument, balances_argument, closing_argument, cutoff_argument, explained_argument,
+    explained_group, files_argument, flag_argument, format_argument, order_argument,
+    output_argument, plan_argument, record_argument, remittance_argument, workers_argument,
 };
-use crate::names::{AUDIT, CHECK, ERRORS_ONLY, EXPLAIN, RUN, STRICT, SUMMARY, VALUE};
-use crate::texts::{audit_example, check_example, run_example, statuses, value_example};
+use crate::names::{
+    AUDIT, CHECK, CLAIM_ID, ERRORS_ONLY, EXPLAIN, EXPLAIN_RECORD, FAMILY, MEMBER, RUN, STRICT,
+    SUMMARY, VALUE,
+};
+use crate::texts::{
+    audit_example, check_example, explain_example, run_example, statuses, value_example,
+};
 use clap::{Arg, ArgMatches, Command, Error};
 use std::alloc::{AllocError, Global};
 
@@ -26,12 +31,13 @@ pub fn matches_of<'a>(
 
 fn command_line<'a>(alloc: Global, workers_limit: usize) -> Result<Command<'a>, AllocError>
     ensures { IfOk result (λ line. subcommand_names line
-        ≡ VALUE.now ∷ CHECK.now ∷ RUN.now ∷ AUDIT.now ∷ []) }
+        ≡ VALUE.now ∷ CHECK.now ∷ RUN.now ∷ AUDIT.now ∷ EXPLAIN_RECORD.now ∷ []) }
 {
     let line = with_command(bare_line(alloc)?, value_command(alloc))?;
     let line = with_command(line, check_command(alloc))?;
     let line = with_command(line, run_command(alloc, workers_limit))?;
-    with_command(line, audit_command(alloc))
+    let line = with_command(line, audit_command(alloc))?;
+    with_command(line, explain_command(alloc))
 }
 
 fn bare_line<'a>(alloc: Global) -> Result<Command<'a>, AllocError>
@@ -123,6 +129,30 @@ fn audit_command<'a>(alloc: Global) -> Result<Command<'a>, AllocError>
         files_argument(alloc),
     ]?;
     command_of(alloc, AUDIT, about, audit_example(), arguments)
+}
+
+fn explain_command<'a>(alloc: Global) -> Result<Command<'a>, AllocError>
+    ensures { IfOk result (λ command. (fields_of command).name.now ≡ EXPLAIN_RECORD.now) }
+{
+    let about = "Explain records of the remittance that a run in an order writes";
+    let order = "The order in which the run accepted the claims; the default is `files`";
+    let claim_id = "Explain the first claim with this identifier";
+    let member = "Explain all claims of this member, under plans of version 1 and 2";
+    let family = "Explain all claims of this family, under plans of version 3";
+    let arguments = vec![in alloc;
+        plan_argument(alloc).long("plan"),
+        balances_argument(alloc),
+        cutoff_argument(alloc),
+        order_argument(alloc, order),
+        record_argument(alloc),
+        explained_argument(alloc, CLAIM_ID, "claim-id", "ID", claim_id),
+        explained_argument(alloc, MEMBER, "member", "MEMBER", member),
+        explained_argument(alloc, FAMILY, "family", "FAMILY", family),
+        format_argument(alloc),
+        files_argument(alloc),
+    ]?;
+    let group = explained_group(alloc)?;
+    command_of(alloc, EXPLAIN_RECORD, about, explain_example(), arguments)?.group(group)
 }
 
 fn command_of<'a>(

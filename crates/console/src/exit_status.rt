@@ -8,6 +8,8 @@ ghost use Rattle.console.specs.ExitStatus.{code_of};
 
 use clap::Error;
 use clap::error::ErrorKind;
+use printable::push_printable;
+use std::io;
 
 /// How the program ends.
 #[derive(Clone, Copy, PartialEq, Eq, Drop)]
@@ -51,8 +53,9 @@ pub fn no_memory<R: Eprint>(rt: &R) -> ExitStatus
     print_error(rt, "no memory", ExitStatus::Resource)
 }
 
-/// Prints an error of the command line, or the requested help or version, and returns the status.
-pub fn usage<R: Print + Eprint>(rt: &R, fault: &Error) -> ExitStatus
+/// Prints an error of the command line, or the requested help or version, and returns the status. In an error's lines, which repeat words of the command
+/// line, U+FFFD replaces each character that a terminal would obey or not show.
+pub fn usage<R: Print + Eprint + AllocGlobal>(rt: &R, fault: &Error) -> ExitStatus
     ensures fault { kind_of fault.now ≢ DisplayHelp
         → kind_of fault.now ≢ DisplayVersion → result ≢ Done }
     ensures not_refused { result ≢ Refused }
@@ -60,9 +63,24 @@ pub fn usage<R: Print + Eprint>(rt: &R, fault: &Error) -> ExitStatus
     if fault.kind() == ErrorKind::OutOfMemory {
         return no_memory(rt);
     }
-    match fault.print(rt) {
+    let printed = if fault.use_stderr() {
+        print_usage(rt, fault)
+    } else {
+        fault.print(rt)
+    };
+    match printed {
         Ok(()) if fault.use_stderr() => ExitStatus::Usage,
         Ok(()) => ExitStatus::Done,
         Err(_) => ExitStatus::Resource,
     }
+}
+
+fn print_usage<R: Eprint + AllocGlobal>(rt: &R, fault: &Error) -> io::Result<()> {
+    let text = format!(in rt.alloc(); "{fault}")?;
+    let mut lines = String::new(rt.alloc());
+    for line in text.as_str().lines() {
+        push_printable(&mut lines, line)?;
+        lines.push('\n')?;
+    }
+    rt.eprint(lines.as_str())
 }

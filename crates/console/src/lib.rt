@@ -6,7 +6,8 @@
 //! `stack.rt` takes room for the stack.
 //!
 //! `atomic_target.rt` has the contract of a place whose text is replaced atomically, and `atomic_file.rt` implements it for the system's files: it
-//! writes a new file in the same folder, syncs it to the device, and renames it.
+//! writes a new file in the same folder, syncs it to the device, and renames it. `outputs.rt` refuses an output that the command also reads,
+//! `unfinished.rt` removes what interrupted commands have left, and `paths.rt` says where paths lead.
 #![tactic(auto)]
 
 mod arguments;
@@ -17,9 +18,12 @@ mod exit_status;
 mod files;
 mod heartbeat;
 pub mod names;
+mod outputs;
+mod paths;
 mod sources;
 mod stack;
 mod texts;
+mod unfinished;
 mod words;
 
 pub use atomic_file::AtomicFile;
@@ -28,6 +32,8 @@ pub use command::matches_of;
 pub use exit_status::{ExitStatus, no_memory, print_error, usage};
 pub use files::{ReadFault, read_source, read_text};
 pub use heartbeat::Heartbeat;
+pub use outputs::prepare_outputs;
 pub use sources::{FileSource, FileSources, Sources};
 pub use stack::grow_stack;
-pub use words::{closing_apart, explains, input_once, program_arguments};
+pub use unfinished::FolderLocks;
+pub use words::{explains, input_once, program_arguments};

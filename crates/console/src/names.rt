@@ -12,6 +12,9 @@ pub const RUN: &str = "run";
 /// The command that compares a remittance with the one that a run in an order writes.
 pub const AUDIT: &str = "audit";
 
+/// The command that explains a record of the remittance.
+pub const EXPLAIN_RECORD: &str = "explain";
+
 /// The plan file of each command.
 pub const PLAN: &str = "PLAN";
 
@@ -38,6 +41,30 @@ pub const BY_SERVICE: &str = "service";
 
 /// The remittance that is audited.
 pub const REMITTANCE: &str = "REMITTANCE";
+
+/// The file and the number of the record that is explained.
+pub const RECORD: &str = "RECORD";
+
+/// The identifier of the claim that is explained.
+pub const CLAIM_ID: &str = "CLAIM_ID";
+
+/// The member whose claims are explained.
+pub const MEMBER: &str = "MEMBER";
+
+/// The family whose claims are explained.
+pub const FAMILY: &str = "FAMILY";
+
+/// The arguments that say what is explained.
+pub const EXPLAINED: &str = "EXPLAINED";
+
+/// The format of an explanation.
+pub const FORMAT: &str = "FORMAT";
+
+/// The word for lines of text.
+pub const AS_TEXT: &str = "text";
+
+/// The word for CSV records.
+pub const AS_CSV: &str = "csv";
 
 /// The number of worker threads.
 pub const WORKERS: &str = "WORKERS";

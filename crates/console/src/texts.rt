@@ -49,6 +49,22 @@ The exit status is 0 if the remittance is the one of these texts in this order,
 byte by byte. Otherwise it is 1, and the first record that differs is printed."
 }
 
+pub fn explain_example() -> &'static str {
+    "Example:
+  adjudicate explain --plan examples/health_plan.toml --claim 2:1 \\
+    examples/clinic.csv examples/laboratory.csv
+
+--claim gives the number of a file on the command line and the number of a
+record in it, both from 1, as the first two fields of the remittance do. With
+--claim-id the first claim with the identifier is explained, with --member or
+--family each claim of one, in the order of acceptance. Give the plan, the
+balances, the cutoff, the order and the files of the run.
+
+Each line is a fact: a step, the fact's name and its value. They say what came
+before the claim, what each table reads and answers, each amount, what is left
+after it, and the record of the remittance."
+}
+
 pub fn statuses() -> &'static str {
     "An error is one line on standard error. With --explain, before or after the
 command, its cause and its fix follow (default on a terminal).

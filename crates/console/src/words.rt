@@ -5,7 +5,7 @@ ghost use Rattle.console.specs.declared.exit_status.ExitStatus.TheVariants.{Usag
 ghost use Rattle.console.specs.ExitStatus.{IsUnjudged};
 
 use crate::exit_status::{ExitStatus, no_memory, print_error};
-use crate::names::{BALANCES, CLOSING, EXPLAIN, FILE, OUTPUT, PLAN, REMITTANCE, STREAM};
+use crate::names::{BALANCES, EXPLAIN, FILE, PLAN, REMITTANCE, STREAM};
 use clap::ArgMatches;
 use std::rt::Env;
 use std::{env, io};
@@ -58,32 +58,4 @@ fn times_of_input(matches: &ArgMatches<'_>) -> usize {
 
 fn times_in(path: Option<&str>) -> usize {
     usize::from(path == Some(STREAM))
-}
-
-/// Prints an error and returns its status if the file for the closing balances is named for something else as well, or is not a file.
-pub fn closing_apart<R: Eprint>(rt: &R, matches: &ArgMatches<'_>) -> Result<(), ExitStatus>
-    ensures { IfErr result (λ status. status ≡ Usage) }
-{
-    let Some(closing) = matches.get_str(CLOSING) else {
-        return Ok(());
-    };
-    if closing == STREAM || is_named(matches, closing) {
-        let line = "error: `--closing` must name a file that nothing else names";
-        return Err(print_error(rt, line, ExitStatus::Usage));
-    }
-    Ok(())
-}
-
-fn is_named(matches: &ArgMatches<'_>, path: &str) -> bool {
-    for name in [PLAN, BALANCES, OUTPUT] {
-        if matches.get_str(name) == Some(path) {
-            return true;
-        }
-    }
-    for file in matches.get_strs(FILE).unwrap_or(&[]) {
-        if *file == path {
-            return true;
-        }
-    }
-    false
 }

@@ -8,16 +8,18 @@ use crate::value::value_of;
 use clap::{ArgMatches, Error};
 use console::names::VALUE;
 use console::{
-    ExitStatus, Sources, explains, grow_stack, matches_of, no_memory, print_error,
+    ExitStatus, Sources, explains, grow_stack, matches_of, no_memory, prepare_outputs, print_error,
     program_arguments, usage,
 };
+use std::fs::File;
 use std::rt::{Env, Files};
+use std::time::Clock;
 
 /// Runs the command line over these texts, and returns the exit status. Help and the version are those of the whole program. A command other than
 /// `value` is a usage error.
 pub fn status<R, S: Sources>(rt: &R, sources: &S, is_watched: bool) -> ExitStatus
 where
-    R: Env + Files + Print + Eprint + AllocGlobal,
+    R: Env + Files<File = File> + Print + Eprint + AllocGlobal + Clock,
 {
     let words = match program_arguments(rt) {
         Ok(words) => words,
@@ -28,7 +30,13 @@ where
     }
     // This program has no `run`, so it needs no limit on workers.
     let matched = matches_of(rt.alloc(), words.as_slice(), usize::MAX);
-    matched_status(rt, sources, &matched, is_watched)
+    let locks = match prepare_outputs(rt, &matched, is_watched) {
+        Ok(locks) => locks,
+        Err(status) => return status,
+    };
+    let status = matched_status(rt, sources, &matched, is_watched);
+    drop(locks);
+    status
 }
 
 /// The exit status of a parsed command line. The contract for each status is here and not at `status`, since a proof knows nothing of the words that an
