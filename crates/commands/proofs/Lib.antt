@@ -1,4 +1,5 @@
 pub mod Ends
 pub mod Statuses
+pub mod Explanations
 pub mod Named
 pub mod Ordered

@@ -1,5 +1,5 @@
 -- The text of a run in the order of the command line.
-use Rattle.std.proofs.Common.{◌≡◌, ◌≢◌, ℕ, List, Option, Result, Ok, Err, OnOk, refl}
+use Rattle.std.proofs.Common.{◌≢◌, ℕ, List, Option, Result, Ok, Err, OnOk, refl}
 use Rattle.journal.specs.declared.order.Order.{Order}
 use Rattle.journal.specs.declared.order.Order.TheVariants.{Any, Files, Service}
 use Rattle.evaluation.specs.Stop.{WritesText}

@@ -1,23 +1,48 @@
 -- The exit statuses of the commands, from those of their parts.
-use Rattle.std.proofs.Common.{◌≡◌, ◌≢◌, ℕ, List, inl, inr}
+use Rattle.std.proofs.Common.{◌≡◌, ◌≢◌, ◌⊎◌, ℕ, List, Option, Result, Ok, map, option_map, inl, inr, subst, sym}
+use Rattle.clap.specs.declared.error.Error.{Error}
 use Rattle.clap.specs.declared.parser.matches.ArgMatches.{ArgMatches}
 use Rattle.console.specs.declared.exit_status.ExitStatus.{ExitStatus}
 use Rattle.console.specs.declared.exit_status.ExitStatus.TheVariants.{Done, Refused}
 use Rattle.value_command.specs.Texts.{Whole}
 use Rattle.value_command.proofs.Ends.{unjudged_not_done, unjudged_not_refused}
-use Rattle.commands.specs.Ends.{AuditIsDone, AuditIsRefused, HasRemittance, IsAudited, IsRefusedAudit, IsUnreadStatus, IsUnusedStatus, RunIsDone, RunIsRefused, IsRefusedRun}
-use Rattle.commands.specs.Texts.{HasNamedTexts, IsNamedRemittance}
-use Rattle.commands.specs.Words.{IsStrict}
+use Rattle.commands.specs.Ends.{AuditIsDone, AuditIsRefused, CommandIsRefused, HasRemittance, IsAudited, IsRefused, IsRefusedAudit, IsStatusOfRun, IsUnreadStatus, IsUnusedStatus, RunIsDone, RunIsRefused, IsRefusedRun}
+use Rattle.adjudicate.specs.RunText.{RunTexts}
+use Rattle.commands.specs.Texts.{AreClosed, HasNamedTexts, IsNamedRemittance, texts_at}
+use Rattle.commands.specs.Words.{AsksStrict, IsCutoff, IsStrict, IsWorkers}
 use Rattle.commands.specs.declared.run.Texts.{Texts}
 
 -- `run` over the named texts
-pub run_done : (whole : Whole) (words : ArgMatches) (texts : Texts) (status : ExitStatus) → HasNamedTexts whole words texts → (status ≡ Done → HasRemittance words texts)
-    → status ≡ Done → RunIsDone whole words
-run_done whole words texts status named done is_done = record { texts = texts; named = named; has_remittance = done is_done }
+pub run_done : (whole : Whole) (words : ArgMatches) (texts : Texts) (status : ExitStatus) → HasNamedTexts whole words texts → (AsksStrict words → AreClosed texts)
+    → (status ≡ Done → HasRemittance words texts) → status ≡ Done → RunIsDone whole words
+run_done whole words texts status named closed done is_done = record { texts = texts; named = named; closed = closed; has_remittance = done is_done }
+
+refused_as : (whole : Whole) (words : ArgMatches) (texts : Texts) (status : ExitStatus) → HasNamedTexts whole words texts → IsRefusedRun words texts status ⊎ IsStrict words
+    → RunIsRefused whole words status
+refused_as whole words texts status named (inl refused) = inl (record { texts = texts; named = named; refused = refused })
+refused_as whole words texts status named (inr strict) = inr strict
 
 pub run_refused : (whole : Whole) (words : ArgMatches) (texts : Texts) (status : ExitStatus) → HasNamedTexts whole words texts
-    → (status ≡ Refused → IsRefusedRun words texts status) → status ≡ Refused → RunIsRefused whole words status
-run_refused whole words texts status named refused is_refused = inl (record { texts = texts; named = named; refused = refused is_refused })
+    → (status ≡ Refused → IsRefusedRun words texts status ⊎ IsStrict words) → status ≡ Refused → RunIsRefused whole words status
+run_refused whole words texts status named refused is_refused = refused_as whole words texts status named (refused is_refused)
+
+-- a run that ends as an error of these texts or under `--strict`
+same_texts : (run : RunTexts) (texts : Texts) (cutoff : Option ℕ) → run.plan ≡ texts.plan.items → run.balances ≡ option_map (λ b. b.items) texts.balances
+    → run.files ≡ map (λ f. f.items) texts.files.items → run.cutoff ≡ cutoff → run ≡ texts_at texts cutoff
+same_texts run texts cutoff plan balances files cut = λ i. record { plan = plan i; balances = balances i; files = files i; cutoff = cut i }
+
+ends_refused : (matches words : ArgMatches) (texts : Texts) (run : RunTexts) (cutoff : Option ℕ) (workers : ℕ) (status : ExitStatus) → words ≡ matches → run ≡ texts_at texts cutoff
+    → IsCutoff matches cutoff → IsWorkers matches workers → IsStatusOfRun words run workers status → IsRefusedRun matches texts status ⊎ IsStrict matches
+ends_refused matches words texts run cutoff workers status same is asked engaged (inl error) =
+    inl (record { cutoff = cutoff; asked = asked; workers = workers; engaged = engaged; refused = rw is at error })
+ends_refused matches words texts run cutoff workers status same is asked engaged (inr strict) = inr (rw same at strict)
+
+pub settled_refused : (matches words : ArgMatches) (texts : Texts) (run : RunTexts) (cutoff : Option ℕ) (workers : ℕ) (status : ExitStatus)
+    → (status ≢ Done → IsStatusOfRun words run workers status) → words ≡ matches → run.plan ≡ texts.plan.items → run.balances ≡ option_map (λ b. b.items) texts.balances
+    → run.files ≡ map (λ f. f.items) texts.files.items → run.cutoff ≡ cutoff → IsCutoff matches cutoff → IsWorkers matches workers → status ≡ Refused
+    → IsRefusedRun matches texts status ⊎ IsStrict matches
+settled_refused matches words texts run cutoff workers status ends same plan balances files cut asked engaged is_refused =
+    ends_refused matches words texts run cutoff workers status same (same_texts run texts cutoff plan balances files cut) asked engaged (ends (λ is_done. cc (is_refused, is_done)))
 
 -- a search for unknown keys that fails is not done
 pub unused_not_done : (status : ExitStatus) → IsUnusedStatus status → status ≢ Done
@@ -54,3 +79,8 @@ audit_refused whole words texts remittance status named named_remittance refused
 pub unread_audit_refused : (whole : Whole) (words : ArgMatches) (status : ExitStatus) → IsUnreadStatus words status → status ≡ Refused → AuditIsRefused whole words status
 unread_audit_refused whole words status (inl unjudged) is_refused = absurd (unjudged_not_refused status unjudged is_refused)
 unread_audit_refused whole words status (inr (refused, strict)) is_refused = inr strict
+
+-- a parsed command line is refused where its command is
+pub parsed_refused : (whole : Whole) (matched : Result ArgMatches Error) (matches : ArgMatches) (status : ExitStatus) → matched ≡ Ok matches
+    → (status ≡ Refused → CommandIsRefused whole matches status) → status ≡ Refused → IsRefused whole matched status
+parsed_refused whole matched matches status is refused is_refused = subst (λ m. IsRefused whole m status) (sym is) (refused is_refused)

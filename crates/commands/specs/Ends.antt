@@ -4,7 +4,7 @@ use Rattle.clap.specs.declared.error.Error.{Error}
 use Rattle.clap.specs.declared.parser.matches.ArgMatches.{ArgMatches}
 use Rattle.console.specs.declared.exit_status.ExitStatus.{ExitStatus}
 use Rattle.console.specs.declared.exit_status.ExitStatus.TheVariants.{Refused}
-use Rattle.console.specs.declared.names.TheConstants.{AUDIT, CHECK, RUN, VALUE}
+use Rattle.console.specs.declared.names.TheConstants.{AUDIT, CHECK, EXPLAIN_RECORD, RUN, VALUE}
 use Rattle.console.specs.ExitStatus.{IsUnjudged}
 use Rattle.value_command.specs.Ends.{Ends, HasText, IsHelp, IsStatusOf, ValueIsDone, ValueIsRefused}
 use Rattle.value_command.specs.Texts.{IsNamedPlan, Whole}
@@ -18,8 +18,9 @@ use Rattle.adjudicate.specs.Stop.{IsPlanReason, status_of}
 use Rattle.adjudicate.specs.Findings.{IsReportedText}
 use Rattle.commands.specs.declared.run.Texts.{Texts}
 use Rattle.audit.specs.Audits.{IsAuditReason}
-use Rattle.commands.specs.Texts.{HasNamedTexts, IsNamedRemittance, texts_at}
-use Rattle.commands.specs.Words.{IsCutoff, IsStrict, IsFindings, IsOrder, IsWorkers}
+use Rattle.commands.specs.Explanations.{ExplainIsDone, ExplainIsRefused}
+use Rattle.commands.specs.Texts.{AreClosed, HasNamedTexts, IsNamedRemittance, texts_at}
+use Rattle.commands.specs.Words.{AsksStrict, IsCutoff, IsStrict, IsFindings, IsOrder, IsWorkers}
 
 -- some error has this reason, and this is its exit status
 abbrev pub IsStatusOfRefusal : (Stop → Type 0) → ExitStatus → Type 0
@@ -68,14 +69,19 @@ pub record IsRefusedRun (words : ArgMatches) (texts : Texts) (status : ExitStatu
 abbrev pub IsUnusedStatus : ExitStatus → Type 0
 IsUnusedStatus status = IsUnjudged status ⊎ (status ≡ Refused)
 
--- the status of a run that has not read all of its texts: no input was judged, or unknown keys are errors
+-- the status of a run that has settled nothing: no input was judged, or `--strict` refuses unknown keys, or texts whose records may be lost
 abbrev pub IsUnreadStatus : ArgMatches → ExitStatus → Type 0
 IsUnreadStatus words status = IsUnjudged status ⊎ ((status ≡ Refused) × IsStrict words)
 
--- `run` can end with `Done`: the named texts have a remittance
+-- a run of these texts can end with this status, which is not `Done`: it is that of an error, or all records of a file are refused under `--strict`
+abbrev pub IsStatusOfRun : ArgMatches → RunTexts → ℕ → ExitStatus → Type 0
+IsStatusOfRun words texts workers status = IsStatusOfRefusal (IsRunReason texts workers) status ⊎ IsStrict words
+
+-- `run` can end with `Done`: the named texts have a remittance, and under `--strict` none of them ends within a quoted field
 pub record RunIsDone (whole : Whole) (words : ArgMatches) : Type 0 where
   pub texts : Texts
   pub named : HasNamedTexts whole words texts
+  pub closed : AsksStrict words → AreClosed texts
   pub has_remittance : HasRemittance words texts
 
 -- this is the exit status of an error of a run of the named texts
@@ -84,7 +90,7 @@ pub record TextsAreRefused (whole : Whole) (words : ArgMatches) (status : ExitSt
   pub named : HasNamedTexts whole words texts
   pub refused : IsRefusedRun words texts status
 
--- `run` can end with this status: it is that of an error of a run of the named texts, or unknown keys are errors
+-- `run` can end with this status: it is that of an error of a run of the named texts, or `--strict` may refuse them
 abbrev pub RunIsRefused : Whole → ArgMatches → ExitStatus → Type 0
 RunIsRefused whole words status = TextsAreRefused whole words status ⊎ IsStrict words
 
@@ -129,14 +135,18 @@ AuditIsRefused whole words status = TextsAreRefusedInAudit whole words status �
 abbrev pub CommandIsDone : Whole → ArgMatches → Type 0
 CommandIsDone whole matches =
     Ends matches VALUE.now (ValueIsDone whole)
-    ⊎ (Ends matches CHECK.now (CheckIsDone whole) ⊎ (Ends matches RUN.now (RunIsDone whole) ⊎ Ends matches AUDIT.now (AuditIsDone whole)))
+    ⊎ (Ends matches CHECK.now (CheckIsDone whole)
+    ⊎ (Ends matches RUN.now (RunIsDone whole)
+    ⊎ (Ends matches AUDIT.now (AuditIsDone whole) ⊎ Ends matches EXPLAIN_RECORD.now (ExplainIsDone whole))))
 
 -- the named command can end with this status of an error
 abbrev pub CommandIsRefused : Whole → ArgMatches → ExitStatus → Type 0
 CommandIsRefused whole matches status =
     Ends matches VALUE.now (λ words. ValueIsRefused whole words status)
     ⊎ (Ends matches CHECK.now (λ words. CheckIsRefused whole words status)
-    ⊎ (Ends matches RUN.now (λ words. RunIsRefused whole words status) ⊎ Ends matches AUDIT.now (λ words. AuditIsRefused whole words status)))
+    ⊎ (Ends matches RUN.now (λ words. RunIsRefused whole words status)
+    ⊎ (Ends matches AUDIT.now (λ words. AuditIsRefused whole words status)
+    ⊎ Ends matches EXPLAIN_RECORD.now (λ words. ExplainIsRefused whole words status))))
 
 -- the command line names a command that can end with `Done`, or it asks for help or the version
 abbrev pub IsDone : Whole → Result ArgMatches Error → Type 0

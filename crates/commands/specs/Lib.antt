@@ -1,3 +1,4 @@
 pub mod Words
 pub mod Texts
+pub mod Explanations
 pub mod Ends

@@ -1,6 +1,6 @@
 -- The texts that a run reads by their names, up to one byte more than their limits, as far as they are known.
-use Rattle.std.specs.Prelude.{◌≡◌, ◌-◌, ◌^◌, ℕ, List, Option, None, Some, IsSomeAnd, map, option_map}
-use Rattle.std.specs.List.{AllZip}
+use Rattle.std.specs.Prelude.{◌≡◌, ◌-◌, ◌^◌, ℕ, List, [], Option, None, Some, IsSomeAnd, map, option_map, unwrap_or}
+use Rattle.std.specs.List.{All, AllZip}
 use Rattle.clap.specs.declared.parser.matches.ArgMatches.{ArgMatches}
 use Rattle.console.specs.Reading.{IsReadUpTo}
 use Rattle.console.specs.declared.names.TheConstants.{BALANCES, FILE, REMITTANCE}
@@ -8,6 +8,7 @@ use Rattle.intake_csv.specs.Limits.{file_limit_bytes}
 use Rattle.value_command.specs.Texts.{IsNamedPlan, IsNamedText, Whole}
 use Rattle.value_command.specs.Words.{word_at, words_at}
 use Rattle.adjudicate.specs.RunText.{RunTexts}
+use Rattle.remarks.specs.Quotes.{EndsInQuotes}
 use Rattle.commands.specs.declared.run.Texts.{Texts}
 
 -- the bytes are read from the text of the name, or there is neither a name nor a text
@@ -41,6 +42,11 @@ pub record HasNamedTexts (whole : Whole) (matches : ArgMatches) (texts : Texts) 
   pub plan : IsNamedPlan whole matches texts.plan.items
   pub balances : AreNamedBalances whole matches (option_map (λ b. b.items) texts.balances)
   pub files : AreNamedFiles whole matches (map (λ f. f.items) texts.files.items)
+
+-- neither the balances nor a claim file end within a quoted field
+pub record AreClosed (texts : Texts) : Type 0 where
+  pub balances : ¬ EndsInQuotes (unwrap_or (option_map (λ b. b.items) texts.balances) [])
+  pub files : All (λ file. ¬ EndsInQuotes file.items) texts.files.items
 
 -- the bytes are read from the named remittance, which may have any length
 abbrev pub IsNamedRemittance : Whole → ArgMatches → List ℕ → Type 0

@@ -32,6 +32,10 @@ IsNumber (Some text) number =
 abbrev pub IsStrict : ArgMatches → Type 0
 IsStrict matches = IsFlag (text_at matches STRICT.now) true
 
+-- the command line has the option `--strict`
+abbrev pub AsksStrict : ArgMatches → Type 0
+AsksStrict matches = text_at matches STRICT.now ≡ Some (codes "true")
+
 -- only violations of a hit policy are listed
 abbrev pub is_errors_only : Findings → Bool
 is_errors_only All = false

@@ -118,7 +118,8 @@ fn report<R: Print + Eprint + AllocGlobal>(
     }
 }
 
-fn refuse<R: Eprint + AllocGlobal>(rt: &R, about: &AboutFiles, stop: Stop) -> ExitStatus
+/// Prints an error of the library, and returns its status.
+pub fn refuse<R: Eprint + AllocGlobal>(rt: &R, about: &AboutFiles, stop: Stop) -> ExitStatus
     ensures status { code_of result ≡ status_of stop }
     ensures not_done { result ≢ Done }
 {

@@ -14,10 +14,13 @@ use crate::words::{findings_of, is_strict};
 use adjudicate::{Findings, do_findings_check};
 use clap::ArgMatches;
 use console::{AtomicTarget, ExitStatus, Sources};
+use diagnostics::explain_role_entries;
 use fixpoint::Out;
 use std::io;
 use std::rt::Files;
-use value_command::{About, commit_output, exit_status_of, output_of, plan_of, report_unwritable};
+use value_command::{
+    About, commit_output, exit_status_of, output_of, plan_of, print_message, report_unwritable,
+};
 
 /// Runs the command `check`, and returns its exit status.
 pub fn check_of<R: Files + Print + Eprint + AllocGlobal, S: Sources>(
@@ -35,10 +38,23 @@ pub fn check_of<R: Files + Print + Eprint + AllocGlobal, S: Sources>(
     };
     let findings = findings_of(matches);
     let status = check_plan(rt, matches, plan.as_slice(), findings, explains);
+    report_role_entries(rt, plan.as_slice(), status, explains);
     if is_strict(matches) {
         return strict_status(rt, plan.as_slice(), status);
     }
     status
+}
+
+// Reports entries of a checked plan that pend each claim that gets them.
+fn report_role_entries<R: Eprint + AllocGlobal>(
+    rt: &R,
+    plan: &[u8],
+    status: ExitStatus,
+    explains: bool,
+) {
+    if explains && status == ExitStatus::Done {
+        print_message(rt, explain_role_entries(rt.alloc(), plan));
+    }
 }
 
 /// The status under `--strict` of a check that has this status without it. Unknown keys are reported for an invalid plan, too, since they may be the

@@ -6,13 +6,16 @@ ghost use Rattle.commands.specs.Ends.{CommandIsDone, CommandIsRefused, IsDone, I
 
 use crate::auditing::audit_of;
 use crate::check::check_of;
+use crate::explained::explain_of;
 use crate::run::run_of;
 use adjudicate::WORKERS_LIMIT;
 use clap::{ArgMatches, Error};
-use console::names::{AUDIT, CHECK, RUN, VALUE};
+use console::names::{AUDIT, CHECK, EXPLAIN_RECORD, RUN, VALUE};
 use console::{
-    ExitStatus, Sources, explains, grow_stack, matches_of, no_memory, program_arguments, usage,
+    ExitStatus, Sources, explains, grow_stack, matches_of, no_memory, prepare_outputs,
+    program_arguments, usage,
 };
+use std::fs::File;
 use std::rt::{Env, Files};
 use std::sync::Wait;
 use std::thread::Threads;
@@ -23,7 +26,7 @@ use value_command::value_of;
 /// explained, and a long run prints progress lines.
 pub fn status<R, S: Sources>(rt: &R, sources: &S, is_watched: bool) -> ExitStatus
 where
-    R: Env + Files + Print + Eprint + AllocGlobal,
+    R: Env + Files<File = File> + Print + Eprint + AllocGlobal,
     R: Clock + Threads + Wait + Clone + Drop + Send + Sync + 'static,
 {
     let words = match program_arguments(rt) {
@@ -34,7 +37,13 @@ where
         return no_memory(rt);
     }
     let matched = matches_of(rt.alloc(), words.as_slice(), WORKERS_LIMIT);
-    matched_status(rt, sources, &matched, is_watched)
+    let locks = match prepare_outputs(rt, &matched, is_watched) {
+        Ok(locks) => locks,
+        Err(status) => return status,
+    };
+    let status = matched_status(rt, sources, &matched, is_watched);
+    drop(locks);
+    status
 }
 
 /// The exit status of a parsed command line. The contract for each status is here and not at `status`, since a proof knows nothing of the words that an
@@ -57,7 +66,7 @@ where
     }
 }
 
-/// `clap` accepts no command but these four.
+/// `clap` accepts no command but these five.
 fn command<R, S: Sources>(
     rt: &R,
     sources: &S,
@@ -79,8 +88,11 @@ where
     if let Some(words) = matches.subcommand_matches(RUN) {
         return run_of(rt, sources, words, is_watched);
     }
-    match matches.subcommand_matches(AUDIT) {
-        Some(words) => audit_of(rt, sources, words, explains(words, is_watched)),
+    if let Some(words) = matches.subcommand_matches(AUDIT) {
+        return audit_of(rt, sources, words, explains(words, is_watched));
+    }
+    match matches.subcommand_matches(EXPLAIN_RECORD) {
+        Some(words) => explain_of(rt, sources, words, explains(words, is_watched)),
         None => ExitStatus::Usage,
     }
 }

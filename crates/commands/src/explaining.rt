@@ -32,8 +32,8 @@ impl<'a, 'w> AboutFiles<'a, 'w> {
         }
     }
 
-    // Providers count from 1.
-    fn file(&self, number: usize) -> &[u8] {
+    /// The text of a provider's file. Providers count from 1.
+    pub fn file(&self, number: usize) -> &[u8] {
         match self.files.get(number.saturating_sub(1)) {
             Some(text) => text.as_slice(),
             None => &[],

@@ -9,23 +9,25 @@ ghost use Rattle.console.specs.Reading.{IsReadUpTo};
 ghost use Rattle.intake_csv.specs.Limits.{file_limit_bytes};
 ghost use Rattle.adjudicate.specs.RunText.{run_texts};
 ghost use Rattle.value_command.specs.Ends.{HasText, PutsText};
-ghost use Rattle.commands.specs.Ends.{HasRemittance, IsStatusOfRefusal, IsRemittanceIn, IsUnreadStatus, RunIsDone, RunIsRefused, IsRefusedRun};
-ghost use Rattle.commands.specs.Texts.{AreNamedBalances, AreNamedFiles, HasNamedTexts};
+ghost use Rattle.commands.specs.Ends.{HasRemittance, IsStatusOfRefusal, IsStatusOfRun, IsRemittanceIn, IsUnreadStatus, RunIsDone, RunIsRefused, IsRefusedRun};
+ghost use Rattle.commands.specs.Words.{AsksStrict, IsStrict};
+ghost use Rattle.commands.specs.Texts.{AreClosed, AreNamedBalances, AreNamedFiles, HasNamedTexts};
 
 use crate::explaining::{AboutFiles, explain_refusal};
+use crate::remarking::remark_on;
 use crate::strict::refuse_unused;
-use crate::summary::summary_of;
+use crate::summary::{has_refused_file, refused_files_of, summary_of};
 use crate::words::{cutoff_of, is_strict, order_of, workers_of};
 use adjudicate::{Counting, FILE_LIMIT_BYTES, Order, RunInput, ValueStop, do_counted_run};
 use clap::ArgMatches;
 use console::names::{BALANCES, CLOSING, FILE, SUMMARY};
 use console::{
-    AtomicFile, AtomicTarget, ExitStatus, Heartbeat, Sources, closing_apart, explains, input_once,
-    no_memory,
+    AtomicFile, AtomicTarget, ExitStatus, Heartbeat, Sources, explains, input_once, no_memory,
 };
 use fixpoint::{Out, put_all};
 use std::alloc::{AllocError, Global};
 use std::io;
+use std::mem::forget;
 use std::rt::Files;
 use std::sync::Wait;
 use std::thread::Threads;
@@ -62,11 +64,9 @@ impl Texts {
     }
 
     /// What an explanation of an error needs.
-    pub fn about<'a, 'w>(
-        &'a self,
-        explains: bool,
-        words: &'a ArgMatches<'w>,
-    ) -> AboutFiles<'a, 'w> {
+    pub fn about<'a, 'w>(&'a self, explains: bool, words: &'a ArgMatches<'w>) -> AboutFiles<'a, 'w>
+        ensures { result.plan.words.now ≡ words.entry.now }
+    {
         AboutFiles {
             plan: About {
                 explains,
@@ -79,7 +79,7 @@ impl Texts {
     }
 }
 
-/// Runs the command `run`, and returns its exit status. If standard error is a terminal, a long run prints progress lines there.
+/// Runs the command `run`, and returns its exit status. If standard error is a terminal, a long run prints progress lines there once the texts are read.
 pub fn run_of<R, S: Sources>(
     rt: &R,
     sources: &S,
@@ -92,34 +92,42 @@ where
     ensures done { result ≡ Done → RunIsDone (S.whole sources.now) matches.now }
     ensures refused { result ≡ Refused → RunIsRefused (S.whole sources.now) matches.now result }
 {
+    let explains = explains(matches, is_watched);
+    match texts_of(rt, sources, matches, explains) {
+        Ok(texts) => {
+            let status = settle_watched(rt, matches, &texts, is_watched, explains);
+            // The program ends next, so to free this memory would only take time.
+            forget(texts);
+            status
+        }
+        Err(status) => status,
+    }
+}
+
+fn settle_watched<R>(
+    rt: &R,
+    matches: &ArgMatches<'_>,
+    texts: &Texts,
+    is_watched: bool,
+    explains: bool,
+) -> ExitStatus
+where
+    R: Files + Print + Eprint + AllocGlobal,
+    R: Clock + Threads + Wait + Clone + Drop + Send + Sync + 'static,
+    ensures done { result ≡ Done → HasRemittance matches.now texts.now }
+    ensures refused { result ≡ Refused
+        → IsRefusedRun matches.now texts.now result ⊎ IsStrict matches.now }
+{
     let heartbeat = if is_watched {
         Heartbeat::start(rt)
     } else {
         None
     };
-    let status = settle_named(rt, sources, matches, is_watched);
+    let status = settle(rt, matches, texts, is_watched, explains);
     if let Some(heartbeat) = heartbeat {
         heartbeat.end(rt);
     }
     status
-}
-
-fn settle_named<R, S: Sources>(
-    rt: &R,
-    sources: &S,
-    matches: &ArgMatches<'_>,
-    is_watched: bool,
-) -> ExitStatus
-where
-    R: Files + Print + Eprint + AllocGlobal + Threads + Wait + Sync,
-    ensures done { result ≡ Done → RunIsDone (S.whole sources.now) matches.now }
-    ensures refused { result ≡ Refused → RunIsRefused (S.whole sources.now) matches.now result }
-{
-    let explains = explains(matches, is_watched);
-    match texts_of(rt, sources, matches, explains) {
-        Ok(texts) => settle(rt, matches, &texts, is_watched, explains),
-        Err(status) => status,
-    }
 }
 
 fn settle<R>(
@@ -132,7 +140,8 @@ fn settle<R>(
 where
     R: Files + Print + Eprint + AllocGlobal + Threads + Wait + Sync,
     ensures done { result ≡ Done → HasRemittance matches.now texts.now }
-    ensures refused { result ≡ Refused → IsRefusedRun matches.now texts.now result }
+    ensures refused { result ≡ Refused
+        → IsRefusedRun matches.now texts.now result ⊎ IsStrict matches.now }
 {
     let Some(workers) = workers_of(matches) else {
         return ExitStatus::Usage;
@@ -164,46 +173,102 @@ where
     R: Files + Print + Eprint + AllocGlobal + Threads + Wait + Sync,
     ensures done { result ≡ Done → HasText (IsRemittanceIn order (run_texts input.entry)) }
     ensures refused { result ≢ Done
-        → IsStatusOfRefusal (IsRunReason (run_texts input.entry) input.entry.workers) result }
+        → IsStatusOfRun about.now.plan.words.now (run_texts input.entry)
+        input.entry.workers result }
 {
-    let mut counting = if has_summary {
+    // Under `--strict` the counts show whether all records of a file are refused.
+    let mut counting = if has_summary || is_strict(about.plan.words) {
         Counting::of_records()
     } else {
         Counting::nothing()
     };
+    counting.leave_memory();
     match closing_of(rt, about) {
         Ok(Some(mut place)) => {
             counting.request_closing();
-            match run_and_report(rt, about, input, order, &mut counting) {
-                ExitStatus::Done => put_closing(rt, about, &mut place, &counting),
-                status => status,
-            }
+            run_and_close(
+                rt,
+                about,
+                input,
+                order,
+                &mut place,
+                &mut counting,
+                has_summary,
+            )
         }
-        Ok(None) => run_and_report(rt, about, input, order, &mut counting),
+        Ok(None) => run_and_report(rt, about, input, order, &mut counting, has_summary),
         Err(status) => status,
     }
 }
 
-/// Runs into the file of `--output` or to standard output, and prints the counts of the records if
-/// they are requested.
+/// Begins the closing balances, so that a place that takes none is refused before the run, and puts them into the place after it.
+fn run_and_close<R, P: AtomicTarget>(
+    rt: &R,
+    about: &AboutFiles,
+    input: RunInput,
+    order: Order,
+    place: &mut P,
+    counting: &mut Counting,
+    has_summary: bool,
+) -> ExitStatus
+where
+    R: Files + Print + Eprint + AllocGlobal + Threads + Wait + Sync,
+    ensures done { result ≡ Done → HasText (IsRemittanceIn order (run_texts input.entry)) }
+    ensures refused { result ≢ Done
+        → IsStatusOfRun about.now.plan.words.now (run_texts input.entry)
+        input.entry.workers result }
+{
+    let text = match place.begin() {
+        Ok(text) => text,
+        Err(fault) => return report_unwritable(rt, &about_without_explanation(about), &fault),
+    };
+    match run_and_report(rt, about, input, order, counting, has_summary) {
+        ExitStatus::Done => put_closing(rt, about, place, text, counting),
+        status => {
+            place.discard(text);
+            status
+        }
+    }
+}
+
+/// Runs into the file of `--output` or to standard output, and prints the summary if it is requested. Under `--strict` the
+/// status is `Refused` if all records of a file are refused; the remittance is whole then, too.
 fn run_and_report<R>(
     rt: &R,
     about: &AboutFiles,
     input: RunInput,
     order: Order,
     counting: &mut Counting,
+    has_summary: bool,
 ) -> ExitStatus
 where
     R: Files + Print + Eprint + AllocGlobal + Threads + Wait + Sync,
     ensures done { result ≡ Done → HasText (IsRemittanceIn order (run_texts input.entry)) }
     ensures refused { result ≢ Done
-        → IsStatusOfRefusal (IsRunReason (run_texts input.entry) input.entry.workers) result }
+        → IsStatusOfRun about.now.plan.words.now (run_texts input.entry)
+        input.entry.workers result }
 {
-    let status = run_to_output(rt, about, input, order, counting);
-    if status == ExitStatus::Done {
-        report_counts(rt, counting);
+    match run_to_output(rt, about, input, order, counting) {
+        ExitStatus::Done => {
+            report_counts(rt, about, counting, has_summary);
+            strict_status(rt, about.plan.words, counting)
+        }
+        status => status,
     }
-    status
+}
+
+// The status of a run that has written its remittance.
+fn strict_status<R: Eprint>(rt: &R, matches: &ArgMatches<'_>, counting: &Counting) -> ExitStatus
+    ensures { result ≢ Done → IsStrict matches.now }
+{
+    if !is_strict(matches) {
+        return ExitStatus::Done;
+    }
+    match counting.counts() {
+        Some(counts) if has_refused_file(counts) => ExitStatus::Refused,
+        Some(_) => ExitStatus::Done,
+        None => no_memory(rt),
+    }
 }
 
 // The file that the command line names for the closing balances, if it names one. If nothing can be
@@ -228,16 +293,14 @@ fn put_closing<R: Eprint + AllocGlobal, P: AtomicTarget>(
     rt: &R,
     about: &AboutFiles,
     place: &mut P,
+    text: P::Text,
     counting: &Counting,
 ) -> ExitStatus
     ensures { (result ≡ Done) ⊎ (result ≡ Resource) }
 {
     let Some(closing) = counting.closing() else {
+        place.discard(text);
         return no_memory(rt);
-    };
-    let text = match place.begin() {
-        Ok(text) => text,
-        Err(fault) => return report_unwritable(rt, &about_without_explanation(about), &fault),
     };
     let mut out = Out::new(text);
     let answer = match put_all(closing, &mut out) {
@@ -288,11 +351,22 @@ where
     }
 }
 
-// If memory runs out for the lines, they are left out.
-fn report_counts<R: Eprint + AllocGlobal>(rt: &R, counting: &Counting) {
-    if let Some(counts) = counting.counts()
-        && let Ok(lines) = summary_of(rt.alloc(), counts)
-    {
+// Without a summary, the files of which all records are refused are reported. If memory runs out for the lines, they are left out.
+fn report_counts<R: Eprint + AllocGlobal>(
+    rt: &R,
+    about: &AboutFiles,
+    counting: &Counting,
+    has_summary: bool,
+) {
+    let Some(counts) = counting.counts() else {
+        return;
+    };
+    let lines = if has_summary {
+        summary_of(rt.alloc(), counts, about)
+    } else {
+        refused_files_of(rt.alloc(), counts, about)
+    };
+    if let Ok(lines) = lines {
         let _ = rt.eprint(lines.as_str());
     }
 }
@@ -357,7 +431,8 @@ pub fn slices_of(alloc: Global, files: &[Vec<u8>]) -> Result<Vec<&[u8]>, AllocEr
     Ok(slices)
 }
 
-/// Reads the texts that the command line names. For the first one that cannot be read, an error line is printed, and its status is returned.
+/// Reads the texts that the command line names, and reports what they show. For the first one that cannot be read, an error line is printed, and its
+/// status is returned.
 pub fn texts_of<R: Eprint + AllocGlobal, S: Sources>(
     rt: &R,
     sources: &S,
@@ -365,19 +440,23 @@ pub fn texts_of<R: Eprint + AllocGlobal, S: Sources>(
     explains: bool,
 ) -> Result<Texts, ExitStatus>
     ensures named { IfOk result (HasNamedTexts (S.whole sources.now) matches.now) }
+    ensures closed { IfOk result (λ texts. AsksStrict matches.now → AreClosed texts) }
     ensures failed { IfErr result (IsUnreadStatus matches.now) }
 {
     input_once(rt, matches)?;
-    closing_apart(rt, matches)?;
     let plan = plan_of(rt, sources, matches, explains)?;
     if is_strict(matches) {
         refuse_unused(rt, plan.as_slice())?;
     }
-    Ok(Texts {
+    let texts = Texts {
         plan,
         balances: balances_of(rt, sources, matches, explains)?,
         files: files_of(rt, sources, matches, explains)?,
-    })
+    };
+    match remark_on(rt, matches, &texts, explains) {
+        Ok(()) => Ok(texts),
+        Err(status) => Err(status),
+    }
 }
 
 fn balances_of<R: Eprint + AllocGlobal, S: Sources>(

@@ -1,7 +1,7 @@
 //! The options of a command line.
 
 ghost use Rattle.std.specs.Prelude.{◌≡◌, IfSome, true};
-ghost use Rattle.commands.specs.Words.{IsCutoff, IsStrict, IsFindings, IsOrder, IsWorkers};
+ghost use Rattle.commands.specs.Words.{AsksStrict, IsCutoff, IsStrict, IsFindings, IsOrder, IsWorkers};
 
 use adjudicate::{Findings, Order};
 use clap::ArgMatches;
@@ -9,7 +9,8 @@ use console::names::{BY_FILES, BY_SERVICE, CUTOFF, ERRORS_ONLY, ORDER, STRICT, W
 
 /// Whether unknown keys of the plan are errors.
 pub fn is_strict(matches: &ArgMatches<'_>) -> bool
-    ensures { result ≡ true → IsStrict matches.now }
+    ensures strict { result ≡ true → IsStrict matches.now }
+    ensures asked { AsksStrict matches.now → result ≡ true }
 {
     matches.get_flag(STRICT)
 }

@@ -1,4 +1,3 @@
-use Rattle.value_command.proofs.Ends.{unjudged_not_done, unjudged_not_refused}
 use Rattle.commands.proofs.Statuses.{audit_done, audit_refused, unread_audit_refused, unread_not_done}
 use Rattle.commands.proofs.auditing.audit_of.Goals as goal
 

@@ -1,0 +1,15 @@
+use Rattle.std.proofs.Common.{inl, inr}
+use Rattle.commands.proofs.Explanations.{none_is_there, whole_is_written}
+use Rattle.commands.proofs.explained.explain_record.Goals as goal
+
+pub returns-in-Ok-clause-done : goal.returns-in-Ok-clause-done
+returns-in-Ok-clause-done g c = λ is_done. whole_is_written _ _ _ _ _ _ c.in-Ok.explained c.in-Ok.ensures.written (c.report.ensures.done is_done)
+
+pub returns-in-Ok-clause-refused : goal.returns-in-Ok-clause-refused
+returns-in-Ok-clause-refused g c = λ is_refused. inl (none_is_there _ _ _ _ _ _ c.in-Ok.explained c.in-Ok.ensures.written (c.report.ensures.refused is_refused))
+
+pub returns-in-Err-clause-done : goal.returns-in-Err-clause-done
+returns-in-Err-clause-done g c = λ is_done. absurd (c.refuse.ensures.not_done is_done)
+
+pub returns-in-Err-clause-refused : goal.returns-in-Err-clause-refused
+returns-in-Err-clause-refused g c = λ is_refused. inr (record { stop = c.in-Err.stop; reason = c.in-Err.ensures.reason; is_status = c.refuse.ensures.status })
