@@ -7,8 +7,8 @@ use fixpoint::Out;
 use std::process::Abort;
 use std::sync::Wait;
 use std::thread::Threads;
-use test_fixtures::{both_files, health_plan, remittance};
-use texts::{crossed_plan, gaps, member_twice, no_roles, two_gaps, values};
+use test_fixtures::{both_files, first_file, health_plan, remittance};
+use texts::{crossed_plan, errors, gaps, member_twice, no_roles, some_errors, two_gaps, values};
 
 mod texts;
 
@@ -19,7 +19,7 @@ enum Command<'a> {
     Value,
     /// The check of a plan with two gaps.
     Check,
-    /// The check of that plan for the gaps and overlaps that are errors, as both gaps are.
+    /// The check of a plan with gaps and overlaps, for those that are errors.
     CheckErrors,
     /// A run.
     Run(RunInput<'a>),
@@ -33,7 +33,7 @@ fn start<R: Threads + Wait + Sync + AllocGlobal>(
     match command {
         Command::Value => do_value(rt.alloc(), crossed_plan(), &["a=6", "b=1"], out),
         Command::Check => do_check(rt.alloc(), two_gaps(), out),
-        Command::CheckErrors => do_errors_check(rt.alloc(), two_gaps(), out),
+        Command::CheckErrors => do_errors_check(rt.alloc(), some_errors(), out),
         Command::Run(input) => do_run(rt, input, out),
     }
 }
@@ -83,8 +83,13 @@ fn a_full_writer_has_the_first_bytes(rt: HostRuntime) {
         fills_each(&rt, Command::Value, width, values());
         fills_each(&rt, Command::Check, width, gaps());
     }
-    fills_each(&rt, Command::CheckErrors, 1_024, gaps());
+    fills_each(&rt, Command::CheckErrors, 1_024, errors());
+}
+
+#[test]
+fn a_full_writer_has_the_first_bytes_of_a_remittance(rt: HostRuntime) {
     fills_each(&rt, run_of_both(), 7, remittance());
+    fills_each(&rt, run_of_both(), 1_024, remittance());
 }
 
 // Returns whether the command has ended with this line and status, and the writer has received
@@ -154,6 +159,9 @@ fn the_first_fault_of_a_run_is_reported(rt: HostRuntime) {
     refuses(&rt, "fields = []\n", twice, &[], 0, no_version);
     refuses(&rt, no_roles(), twice, &[], 0, "terms fault 1\n");
     refuses(&rt, plan, twice, &[], 0, "terms fault 2\n");
+    let no_billed: [&[u8]; 2] = [first_file(), b"claim,member,service,code\n"];
+    let column = "terms fault 3 file 2 cause 3\n";
+    refuses(&rt, plan, twice, &no_billed, 0, column);
     let repeated = "terms fault 4 record 2 cause 8 column 1\n";
     refuses(&rt, plan, twice, files, 0, repeated);
     for workers in [0, 65, usize::MAX] {

@@ -13,6 +13,8 @@ mod fault_lines;
 #[cfg(test)]
 mod reports;
 #[cfg(test)]
+mod runs;
+#[cfg(test)]
 mod testing;
 #[cfg(test)]
 mod threads;

@@ -1,12 +1,45 @@
-//! `write_report` with memory refused.
+//! `write_report` over writers that are full, and with memory refused.
 ghost use Rattle.std.specs.Prelude.{◌≡◌};
 
-use crate::testing::expects;
+use crate::testing::{expects, expects_at};
+use crate::writers::{WhenFull, is_filled, narrow_writer};
+use adjudicate::Stop;
 use claim_gate::{Batch, Terms};
 use fixpoint::Out;
 use remit::write_report;
 use std::alloc::Global;
 use std::process::Abort;
+
+// A writer with room for `limit` bytes of the report receives exactly these.
+fn fills(
+    rt: &impl Abort,
+    alloc: Global,
+    terms: &Terms,
+    batch: &Batch,
+    limit: usize,
+    when_full: WhenFull,
+    text: &str,
+)
+    requires { batch.now.terms ≡ terms.now }
+{
+    let mut out = narrow_writer(rt, alloc, limit, 1_024, when_full);
+    let answer = match write_report(alloc, terms, batch, &mut out) {
+        Ok(()) => Ok(()),
+        Err(fault) => Err(Stop::from(fault)),
+    };
+    let is_so = is_filled(answer, out, limit, text.as_bytes());
+    expects_at(rt, is_so, limit);
+}
+
+/// Tries each room up to that for the whole report.
+pub fn fills_each(rt: &impl Abort, alloc: Global, terms: &Terms, batch: &Batch, text: &str)
+    requires { batch.now.terms ≡ terms.now }
+{
+    for limit in 0..=text.len() {
+        fills(rt, alloc, terms, batch, limit, WhenFull::Fails, text);
+        fills(rt, alloc, terms, batch, limit, WhenFull::TakesNothing, text);
+    }
+}
 
 // Returns whether a writer has received the first `count` bytes of the report, and has failed only
 // before its end.

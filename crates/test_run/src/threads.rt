@@ -1,7 +1,7 @@
 //! Runs by several threads, on gates that other callers use too.
 ghost use Rattle.std.specs.Prelude.{◌≡◌};
 
-use crate::reports::is_report;
+use crate::reports::{fills_each, is_report};
 use crate::testing::{expects, fail, plan_of, terms_of};
 use claim_gate::{Batch, Terms};
 use crew::{RunFault, run};
@@ -64,7 +64,8 @@ fn is_ends_and_close(journal: &[Event], providers: usize) -> bool {
             ends = ends.saturating_add(1);
         }
     }
-    ends == providers && journal.len() == providers.saturating_add(1)
+    let is_closed = matches!(journal.last(), Some(Event::Close));
+    is_closed && ends == providers && journal.len() == providers.saturating_add(1)
 }
 
 // The run of files without claims.
@@ -77,6 +78,18 @@ fn check_ends<R: Threads + Wait + Abort + Sync>(
     let batch = batch_of(rt, alloc, terms, workers);
     let ends = is_ends_and_close(batch.journal(), terms.files().len());
     expects(rt, ends, "the ends and the close");
+    drop(batch);
+}
+
+// A run by two workers, and its report into writers that are full.
+fn check_cuts<R: Threads + Wait + Abort + Sync>(
+    rt: &R,
+    alloc: Global,
+    terms: &Terms,
+    report: &str,
+) {
+    let batch = batch_of(rt, alloc, terms, 2);
+    fills_each(rt, alloc, terms, &batch, report);
     drop(batch);
 }
 
@@ -100,6 +113,8 @@ fn check_report<R: Threads + Wait + Abort + Sync>(
 enum Runs {
     /// A run of files without claims, by this number of workers.
     WithoutClaims(usize),
+    /// A run whose report is this text, into writers that are full after any number of bytes.
+    Cut(&'static str),
     /// A run that may be refused memory. Its journal has this number of events, and its report is
     /// this text.
     ThoughRefused(usize, &'static str),
@@ -131,6 +146,7 @@ fn check_under<R: Threads + Wait + Abort + Sync>(
     let terms = terms_of(rt, alloc, plan, files, cutoff);
     match runs {
         Runs::WithoutClaims(workers) => check_ends(rt, alloc, &terms, workers),
+        Runs::Cut(report) => check_cuts(rt, alloc, &terms, report),
         Runs::ThoughRefused(events, report) => check_report(rt, alloc, &terms, events, report),
         Runs::Watched(case) => meets(rt, alloc, &terms, &case),
     }
@@ -147,6 +163,13 @@ fn a_run_over_a_header_alone(rt: HostRuntime) {
     check(&rt, rt.alloc(), &[header()], None, Runs::WithoutClaims(2));
     let files = [header(); 64];
     check(&rt, rt.alloc(), &files, None, Runs::WithoutClaims(4));
+}
+
+#[test]
+fn a_report_is_cut_at_each_length(rt: HostRuntime) {
+    check_both(&rt, rt.alloc(), Runs::Cut(remittance()));
+    let late = Runs::Cut(late_remittance());
+    check(&rt, rt.alloc(), both_files(), Some(0), late);
 }
 
 #[test]

@@ -1,5 +1,5 @@
-//! Whole plans, from their texts to their values: chains of tables, lists, and memory that runs
-//! out.
+//! Whole plans, from their texts to their values, and memory that runs out. The values of other
+//! plans are tested by cases of the built program.
 use crate::answers::{give, inputs_of, is_text, plan_of, printed_text, value_of};
 use crate::ending::expects;
 use crate::plans::chain_plan;
@@ -8,67 +8,12 @@ use feel_tests::Kind;
 use std::alloc::Global;
 use std::process::Abort;
 use tables::{InputData, Inputs, Name, Plan, Sequence, all_names, rules_have_one_priority_order};
-use test_fixtures::health_plan;
 
-/// The indices of some names of the health plan.
+/// The index of the billed amount among the names.
 const BILLED: usize = 3;
 
+/// The index of the first field among the names.
 const CODE: usize = 4;
-
-const MET: usize = 5;
-
-/// A claim's code, its billed amount and the deductible met, followed by the answers of the health
-/// plan for `covered`, `fee` and `note`, one for each line.
-type Claim = (&'static str, &'static str, &'static str, &'static str);
-
-/// Returns the inputs of a claim for the health plan.
-fn claim_inputs(rt: &impl Abort, alloc: Global, plan: &Plan, claim: &Claim) -> Inputs {
-    let mut inputs = inputs_of(rt, alloc, plan);
-    give(rt, alloc, &mut inputs, CODE, claim.0);
-    give(rt, alloc, &mut inputs, BILLED, claim.1);
-    let lacks = !plan.ready(&inputs) && inputs.get(MET).is_none();
-    expects(rt, lacks, "a value that lacks");
-    give(rt, alloc, &mut inputs, MET, claim.2);
-    expects(rt, inputs.get(MET).is_some(), "the value that lacked");
-    inputs
-}
-
-fn outputs_of_health() -> &'static [&'static str] {
-    &["covered", "fee", "note"]
-}
-
-/// Requires that the health plan has the expected answers for the claim.
-fn is_answered(rt: &impl Abort, alloc: Global, plan: &Plan, claim: &Claim) {
-    let inputs = claim_inputs(rt, alloc, plan, claim);
-    let values = value_of(rt, alloc, plan, &inputs);
-    let text = printed_text(rt, alloc, &values, outputs_of_health());
-    expects(rt, is_text(text, claim.3), claim.3);
-    drop(values);
-    drop(inputs);
-}
-
-fn claims() -> &'static [Claim] {
-    &[
-        ("\"A\"", "120", "0", "true\n100\nlist \"OVER\"\n"),
-        ("\"B\"", "40", "50", "true\n40\nlist \"MET\"\n"),
-        (
-            "\"A\"",
-            "100.01",
-            "50",
-            "true\n100\nlist \"OVER\" \"MET\"\n",
-        ),
-        ("\"X\"", "10", "0", "false\n0\nlist\n"),
-    ]
-}
-
-#[test]
-fn the_health_plan_has_its_values(rt: HostRuntime) {
-    let plan = plan_of(&rt, rt.alloc(), health_plan().as_bytes());
-    for claim in claims() {
-        is_answered(&rt, rt.alloc(), &plan, claim);
-    }
-    drop(plan);
-}
 
 fn outputs_of_chain() -> &'static [&'static str] {
     &["score", "risk", "step", "note", "points", "rules"]

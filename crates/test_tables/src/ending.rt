@@ -12,9 +12,3 @@ pub fn fail(rt: &impl Abort, wanted: &str) -> ! {
 pub fn expects(rt: &impl Abort, holds: bool, wanted: &str) {
     assert!(rt; holds, "not there: {wanted}");
 }
-
-/// Ends the test if the condition is false, with a message that gives the number of the failed
-/// case.
-pub fn expects_at(rt: &impl Abort, holds: bool, number: usize) {
-    assert!(rt; holds, "not at {number}");
-}

@@ -12,5 +12,3 @@ mod cuts;
 mod ending;
 #[cfg(test)]
 mod plans;
-#[cfg(test)]
-mod reading;

@@ -1,13 +1,12 @@
 //! Two threads offer the same file, each with a pass of its own. A thread whose claim the other one
 //! has offered before goes on at the expected place.
-ghost use Rattle.std.specs.Prelude.{◌≡◌};
+ghost use Rattle.std.specs.Prelude.{◌≡◌, IfSome};
 ghost use Rattle.claim_gate.specs.Terms.{ForTerms};
 ghost use Rattle.claim_gate.specs.Replies.{IsFiled};
 ghost use Rattle.test_gate.specs.Words.{IsAnyOrder, IsCaller};
 
-use super::events::is_journal;
 use super::filing::offer_at;
-use super::locks::by_tickets;
+use super::locks::{Ending, by_tickets, check_ending, retire_gate};
 use super::runs::{Calls, run};
 use super::{expects, fail};
 use claim_gate::{Gate, LockedGate, Offer, OfferFault, SerialGate, Served, Terms};
@@ -135,19 +134,21 @@ fn offer_by_two<R: Threads + Wait + Abort + Sync, G: Gate + Sync>(
     )
 }
 
+// Offers the file by two threads, to a gate with a lock. Returns the sequential gate.
 fn rivals_over<S: Section + Drop + Sync, R: Threads + Wait + Abort + Sync>(
     rt: &R,
     alloc: Global,
     terms: &Terms,
     lock: S,
     pass: S::Pass,
-)
+) -> Option<S::Value>
 where
     S::Value: SerialGate + Drop + Send + Sync,
     S::Pass: Send + Drop,
     requires any_order { IsAnyOrder terms.now }
     requires own { S.has_pass lock pass }
     requires terms { (S.Value.shown (S.seen pass)).terms ≡ terms.now }
+    ensures { IfSome result (λ state. (S.Value.shown state).terms ≡ terms.now) }
 {
     let accepted = AtomicU64::new(0);
     let gate = LockedGate::over(lock);
@@ -158,22 +159,17 @@ where
         accepted.load(Ordering::SeqCst) == 1111,
         "each claim once",
     );
-    match gate.retire(rt, pass) {
-        Ok(state) => expects(
-            rt,
-            is_journal(state.journal(), b"A10A11A12A13"),
-            "the claims in order",
-        ),
-        Err(_) => fail(rt, "the gate of one thread"),
-    }
+    let state = retire_gate(rt, terms, &gate, pass);
     drop(gate);
+    state
 }
 
 pub fn rivals<R: Threads + Wait + Abort + Sync>(rt: &R, alloc: Global, terms: &Terms)
     requires { IsAnyOrder terms.now }
 {
     let (lock, pass) = by_tickets(rt, alloc, terms, 0);
-    rivals_over(rt, alloc, terms, lock, pass);
+    let state = rivals_over(rt, alloc, terms, lock, pass);
+    check_ending(rt, terms, state, Ending::Unfinished(b"A10A11A12A13"))
 }
 
 #[test]

@@ -300,8 +300,7 @@ fn full_nothing_script() -> Script {
 fn calls_enlarge_a_full_journal_though_memory_is_refused(rt: HostRuntime) {
     let files = [first_file(), second_file(), header()];
     for script in [full_end_script(), full_take_script(), full_nothing_script()] {
-        let calls = script.on(Lock::Missing);
-        run(&rt, rt.alloc(), health_plan(), &files, None, calls);
+        on_each_gate(&rt, rt.alloc(), health_plan(), &files, None, script);
     }
 }
 

@@ -1,5 +1,5 @@
-//! Plans and what the commands write for them, and balances. A function returns each text, so that its callers are
-//! proved without the text.
+//! Plans and what the commands write for them, and balances. A function returns each text, so that
+//! its callers are proved without the text.
 
 const CROSSED: &[u8] = br#"version = 1
 fields = [{name = "a", kind = "number"}, {name = "b", kind = "number"}]
@@ -35,6 +35,37 @@ pub fn two_gaps() -> &'static [u8] {
 /// The gaps and overlaps of this plan.
 pub fn gaps() -> &'static str {
     "gap table 1: 1\ngap table 1: >5\ngaps 2 overlaps 0\n"
+}
+
+const SOME_ERRORS: &[u8] = br#"version = 1
+fields = [{name = "x", kind = "number"}]
+[[tables]]
+hit = "F"
+inputs = [{name = "x"}]
+outputs = [{name = "a", kind = "number"}]
+rules = [{when = ['<=5'], then = ['1']}, {when = ['5'], then = ['2']}]
+[[tables]]
+hit = "A"
+inputs = [{name = "x"}]
+outputs = [{name = "b", kind = "number", default = '0'}]
+rules = [{when = ['<=5'], then = ['1']}, {when = ['5'], then = ['2']}]
+[[tables]]
+hit = "C"
+inputs = [{name = "x"}]
+outputs = [{name = "c", kind = "number"}]
+rules = [{when = ['<=5'], then = ['1']}, {when = ['5'], then = ['2']}]
+"#;
+
+/// Three tables, each with a gap and an overlap. The first has `F` and no default, so its gap is an
+/// error. The second has `A`, a default and different entries, so its overlap is an error. The
+/// third has `C`, under which neither is an error.
+pub fn some_errors() -> &'static [u8] {
+    SOME_ERRORS
+}
+
+/// The gaps and overlaps of this plan that are errors.
+pub fn errors() -> &'static str {
+    "gap table 1: >5\noverlap table 2: rules 1 2\ngaps 1 overlaps 1\n"
 }
 
 const NO_ROLES: &str = r#"version = 1

@@ -209,13 +209,13 @@ fn check_report<'t>(
     rt: &impl Abort,
     alloc: Global,
     terms: &'t Terms,
-    state: Option<GateState<'t>>,
+    state: Option<Box<GateState<'t>>>,
     report: &str,
 )
-    requires { IfSome state (λ gate. gate.terms ≡ terms.now) }
+    requires { IfSome state (λ gate. gate.value.terms ≡ terms.now) }
 {
     let Some(state) = state else { return };
-    let Ok(batch) = Batch::from_state(state, terms) else {
+    let Ok(batch) = Batch::from_state(Box::into_inner(state), terms) else {
         fail(rt, "a finished run")
     };
     if !report.is_empty() {
@@ -225,9 +225,10 @@ fn check_report<'t>(
     drop(batch);
 }
 
-/// Runs with a ticket lock.
+/// Runs with a ticket lock that has the gate in a box, as the lock of `run` has it.
 pub fn meets<R: Threads + Wait + Abort + Sync>(rt: &R, alloc: Global, terms: &Terms, case: &Case) {
     let state = GateState::new(alloc, terms).expect(rt, "a gate");
+    let state = Box::new(alloc, state).expect(rt, "a box");
     let (lock, pass) = TicketLock::new_at(alloc, state, case.first_ticket).expect(rt, "a lock");
     let state = run_watched(rt, alloc, terms, case, lock, pass);
     check_report(rt, alloc, terms, state, case.report);

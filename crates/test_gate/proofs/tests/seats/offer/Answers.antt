@@ -1,3 +1,5 @@
+use Rattle.std.proofs.Common.{arith}
+use Rattle.std.proofs.lemmas.Grind.{common_steps}
 use Rattle.test_gate.proofs.Callers.{stays_seated, stays_seated_worn}
 use Rattle.test_gate.proofs.tests.seats.offer.Goals as goal
 
@@ -10,3 +12,6 @@ pub returns-in-Err : goal.returns-in-Err
 returns-in-Err g c =
     stays_seated_worn (g.G.Gate.has_pass c.args.gate.now) g.G.Gate.known c.args.terms.now g.G.Gate.is_worn c.args.seat.pass c.in-Err.worn.pass c.args.seat.job c.requires
     c.in-Err.ensures.worn
+
+pub offer-requires-clause-due : goal.offer-requires-clause-due
+offer-requires-clause-due g c = grind (arith, common_steps)

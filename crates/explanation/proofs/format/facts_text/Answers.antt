@@ -1,9 +1,0 @@
-use Rattle.std.proofs.Common.{arith}
-use Rattle.std.proofs.lemmas.Grind.{common_steps}
-use Rattle.explanation.proofs.format.facts_text.Goals as goal
-
-pub loop-fact-preserved : goal.loop-fact-preserved
-loop-fact-preserved c = grind (arith, common_steps)
-
-pub returns : goal.returns
-returns c = grind (arith, common_steps)
