@@ -3,6 +3,5 @@ pub mod Piecewise
 pub mod Refusals
 pub mod Remittances
 pub mod Spelled
-pub mod Statuses
 pub mod TableLines
 pub mod ReportLines

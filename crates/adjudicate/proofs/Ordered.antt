@@ -1,9 +1,6 @@
--- The remittance of a run in an order of acceptance, and the law that there is one.
+-- The remittance of a run in an order of acceptance.
 use Rattle.std.proofs.Common.{◌≡◌, ◌≢◌, ℕ, List, Option, Result, OnOk, subst}
 use Rattle.std.proofs.lemmas.Result.{on_ok_weaker}
-use Rattle.tables.specs.Plan.{IsPlan, PlanParts}
-use Rattle.dtable.specs.PlanFile.{IsPlanText, SpellsOnePlan}
-use Rattle.dtable.proofs.ReadPlan as reading
 use Rattle.journal.specs.declared.event.Event.{Event}
 use Rattle.journal.specs.declared.order.Order.{Order}
 use Rattle.journal.specs.declared.order.Order.TheVariants.{Any}
@@ -11,9 +8,9 @@ use Rattle.journal.specs.Events.{accepts}
 use Rattle.journal.specs.InOrder.{AreFirstInOrder}
 use Rattle.claim_gate.specs.Terms.{ForTerms, IsFinishedOver, TermsParts}
 use Rattle.remit.specs.Writing.{WritesReport}
-use Rattle.orders.specs.Remittance.{IsOrderedRemittanceOf, TextsHaveOneOrderedRemittance}
+use Rattle.orders.specs.Remittance.{IsOrderedRemittanceOf}
+use Rattle.orders.specs.RunTexts.{AreTermsOfTexts, IsOrderedRemittance, RunTexts}
 use Rattle.evaluation.specs.Stop.{WritesText}
-use Rattle.adjudicate.specs.RunText.{AreTermsOfTexts, AreTermsUnder, IsOrderedRemittance, RunTexts, TextsHaveOneRemittance}
 use Rattle.adjudicate.proofs.Remittances.{writes_remittance}
 
 -- the claims that the journal accepts are the first ones in the order of the terms
@@ -40,15 +37,3 @@ ordered_over texts parts order over same old new r h =
     on_ok_weaker r (λ writes asked.
     let w = subst (λ (o : Order). o ≢ Any → WritesText (IsOrderedRemittanceOf o parts) old new) same writes asked in
     record { text = w.text; is_text = record { parts = parts; over = over; is_remittance = w.is_text }; appended = w.appended }) h
-
--- a text's plan is a valid plan
-plan_of_text : (text : List ℕ) (plan : PlanParts) → IsPlanText text plan → IsPlan plan
-plan_of_text text plan h = reading.IsPlan-of _ plan h.spelled
-
-pub one_remittance : SpellsOnePlan → TextsHaveOneOrderedRemittance → TextsHaveOneRemittance
-one_remittance plans remittances order texts bytes others asked a b =
-    let plan : PlanParts = a.over.plan in
-    let same : b.over.plan ≡ plan = plans texts.plan b.over.plan plan b.over.spelled a.over.spelled in
-    let theirs : AreTermsUnder plan texts b.parts = subst (λ (p : PlanParts). AreTermsUnder p texts b.parts) same b.over.are_terms in
-    remittances order plan texts.files texts.balances texts.cutoff a.parts b.parts bytes others asked (plan_of_text texts.plan plan a.over.spelled)
-    a.over.are_terms theirs a.is_remittance b.is_remittance

@@ -30,11 +30,12 @@ use Rattle.remit.specs.Writing.{WritesFront, WritesReport}
 use Rattle.faults.specs.declared.write_fault.WriteFault.{WriteFault}
 use Rattle.evaluation.specs.Stop.{WritesText}
 use Rattle.evaluation.specs.declared.stop.ValueStop.TheVariants as value
-use Rattle.adjudicate.specs.declared.stop.Stop.{Stop}
-use Rattle.adjudicate.specs.declared.stop.Stop.TheVariants as stop
-use Rattle.adjudicate.specs.RunText.{AreTermsOfTexts, IsClosedRemittance, IsCountedRemittance, IsRemittance, IsRemittanceOf, RunTexts, WritesClosed, WritesCounted, WritesRemittanceFront}
-use Rattle.adjudicate.specs.RunStop.{IsRunReason, IsStopOfRun, IsStopOfTerms, IsStopOfWrite, StopsRemittance, WritesRemittanceUntil}
-use Rattle.adjudicate.specs.Stop.{IsStopOfPlan, failed_after}
+use Rattle.orders.specs.declared.stop.Stop.{Stop}
+use Rattle.orders.specs.declared.stop.Stop.TheVariants as stop
+use Rattle.orders.specs.RunTexts.{AreTermsOfTexts, RunTexts}
+use Rattle.orders.specs.Stop.{IsStopOfPlan, IsStopOfRun, IsStopOfTerms, IsStopOfWrite, failed_after}
+use Rattle.adjudicate.specs.RunText.{IsClosedRemittance, IsCountedRemittance, IsRemittance, IsRemittanceOf, WritesClosed, WritesCounted, WritesRemittanceFront}
+use Rattle.adjudicate.specs.RunStop.{IsRunReason, StopsRemittance, WritesRemittanceUntil}
 
 -- the claims of files are the claims among their rows
 claims_of_rows : (names : List InputData) (texts : List (List ℕ)) (files : List (List Row)) → AllZip (AreRowsOf names) texts files

@@ -2,6 +2,5 @@ pub mod CheckReport
 pub mod CheckText
 pub mod ErrorsText
 pub mod Findings
-pub mod Stop
 pub mod RunText
 pub mod RunStop

@@ -10,13 +10,12 @@ use Rattle.faults.specs.declared.terms_fault.TermsFault.TheVariants as terms
 use Rattle.faults.specs.declared.run_fault.RunFault.{RunFault}
 use Rattle.faults.specs.declared.run_fault.RunFault.TheVariants as run
 use Rattle.crew.specs.Workers.{IsWorkerCount}
-use Rattle.faults.specs.declared.write_fault.WriteCause.TheVariants as write
-use Rattle.faults.specs.declared.write_fault.WriteFault.{WriteFault}
 use Rattle.evaluation.specs.Stop.{SpellsNoPlan}
 use Rattle.evaluation.specs.declared.stop.ValueStop.TheVariants as value
-use Rattle.adjudicate.specs.declared.stop.Stop.{Stop}
-use Rattle.adjudicate.specs.declared.stop.Stop.TheVariants as stop
-use Rattle.adjudicate.specs.RunText.{AreTermsUnder, RunTexts, WritesFrontOver, WritesRemittanceFront}
+use Rattle.orders.specs.declared.stop.Stop.{Stop}
+use Rattle.orders.specs.declared.stop.Stop.TheVariants as stop
+use Rattle.orders.specs.RunTexts.{AreTermsUnder, RunTexts}
+use Rattle.adjudicate.specs.RunText.{WritesFrontOver, WritesRemittanceFront}
 
 -- a run with this number of workers can end with this fault: it is the fault of the workers exactly if their number is not allowed. A
 -- lack of memory is another error
@@ -64,21 +63,3 @@ abbrev pub WritesRemittanceUntil : RunTexts → Option (List ℕ) → Option (Li
 WritesRemittanceUntil texts old new (stop.Value (value.Write written)) = WritesFrontOver texts old new written
 WritesRemittanceUntil texts old new (stop.Value value.NoMemory) = Keeps old new ⊎ ((written : ℕ) × WritesFrontOver texts old new written)
 WritesRemittanceUntil texts old new _ = Keeps old new
-
--- the error for a fault of the terms; a lack of memory is not a fault of the texts
-abbrev pub IsStopOfTerms : TermsFault → Stop → Type 0
-IsStopOfTerms fault (stop.Terms same) = (same ≡ fault) × (fault ≢ terms.OutOfMemory)
-IsStopOfTerms fault (stop.Value value.NoMemory) = fault ≡ terms.OutOfMemory
-IsStopOfTerms fault _ = ⊥
-
--- the error for a fault of the run
-abbrev pub IsStopOfRun : RunFault → Stop → Type 0
-IsStopOfRun fault (stop.Run same) = (same ≡ fault) × (fault ≢ run.OutOfMemory)
-IsStopOfRun fault (stop.Value value.NoMemory) = fault ≡ run.OutOfMemory
-IsStopOfRun fault _ = ⊥
-
--- the error for a fault that ended the writing of a remittance
-abbrev pub IsStopOfWrite : WriteFault → Stop → Type 0
-IsStopOfWrite fault (stop.Value (value.Write written)) = (written ≡ fault.written) × (fault.cause ≡ write.Device)
-IsStopOfWrite fault (stop.Value value.NoMemory) = fault.cause ≡ write.OutOfMemory
-IsStopOfWrite fault _ = ⊥

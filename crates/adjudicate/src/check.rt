@@ -10,16 +10,16 @@ ghost use Rattle.adjudicate.specs.CheckText.{IsCheckText};
 ghost use Rattle.adjudicate.specs.ErrorsText.{IsErrorsCheckText};
 ghost use Rattle.adjudicate.specs.Findings.{IsReportedText};
 ghost use Rattle.fixpoint.specs.BufferedOut.{greatest_count};
-ghost use Rattle.adjudicate.specs.Stop.{WritesUntil, IsPlanReason, failed_after};
+ghost use Rattle.orders.specs.Stop.{WritesUntil, IsPlanReason, failed_after};
 ghost use Rattle.adjudicate.specs.CheckReport.{reported_text};
 
 pub mod report;
 pub mod text;
 
-use crate::stop::Stop;
 use dtable::read_plan;
 use evaluation::ValueStop;
 use fixpoint::{Out, ShortWrite};
+use orders::Stop;
 use report::{CheckReport, Findings};
 use std::alloc::Global;
 use std::io::Write;

@@ -4,8 +4,8 @@
 //! `value` has the command `value`, which `evaluation` implements. `check` has the command `check`,
 //! which reports the gaps and overlaps of a plan's tables. `run` has the command `run`, which
 //! settles claims and writes their remittance; `counting` keeps the counts of its records and its
-//! closing balances. `laws` says that a remittance in an order is the only one. `stop` has every error of the commands, with
-//! its line and its exit status.
+//! closing balances. The errors of the commands (`Stop`) come from `orders`, with the law that a
+//! remittance in an order is the only one.
 //!
 //! Plans and their evaluation come from `tables`, the check of a plan and the violations of its hit
 //! policies come from `cutplan`, cells and values come from `feel_tests`, and numbers and the
@@ -21,9 +21,7 @@
 
 mod check;
 mod counting;
-mod laws;
 mod run;
-mod stop;
 mod value;
 
 pub use check::report::Findings;
@@ -34,9 +32,8 @@ pub use crew::WORKERS_LIMIT;
 pub use dtable::PLAN_LIMIT_BYTES;
 pub use evaluation::{ArgumentFault, LINE_LIMIT_BYTES, ValueStop};
 pub use intake_csv::FILE_LIMIT_BYTES;
-pub use laws::texts_have_one_remittance;
+pub use orders::{Stop, texts_have_one_remittance};
 pub use remit::{FileCounts, RecordCounts, RefusalCount, RunCounts};
 pub use run::{RunInput, do_counted_run, do_run};
-pub use stop::Stop;
 pub use tables::Name;
 pub use value::do_value;

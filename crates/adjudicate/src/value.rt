@@ -6,10 +6,10 @@ ghost use Rattle.fixpoint.specs.Out.{writer_of, has_failed};
 ghost use Rattle.claim_gate.specs.Terms.{texts_of};
 ghost use Rattle.evaluation.specs.Stop.{WritesText};
 ghost use Rattle.evaluation.specs.ValueText.{IsValueText};
-ghost use Rattle.adjudicate.specs.Stop.{WritesUntil, IsReason, failed_after};
+ghost use Rattle.orders.specs.Stop.{WritesUntil, IsReason, failed_after};
 
-use crate::stop::Stop;
 use fixpoint::Out;
+use orders::Stop;
 use std::alloc::Global;
 use std::io::Write;
 

@@ -26,11 +26,10 @@ use Rattle.remit.specs.Report.{IsReport}
 use Rattle.remit.specs.Writing.{WritesReport}
 use Rattle.orders.specs.Remittance.{IsOrderedRemittanceOf}
 use Rattle.evaluation.specs.declared.stop.ValueStop.TheVariants as value
-use Rattle.adjudicate.specs.RunStop.{IsStopOfTerms}
-use Rattle.adjudicate.specs.RunText.{AreTermsOfTexts, AreTermsUnder, IsOrderedRemittance, RunTexts, TextsHaveOneRemittance}
-use Rattle.adjudicate.specs.Stop.{IsStopOfPlan}
-use Rattle.adjudicate.specs.declared.stop.Stop.{Stop}
-use Rattle.adjudicate.specs.declared.stop.Stop.TheVariants as stop
+use Rattle.orders.specs.RunTexts.{AreTermsOfTexts, AreTermsUnder, IsOrderedRemittance, RunTexts, TextsHaveOneRemittance}
+use Rattle.orders.specs.Stop.{IsStopOfPlan, IsStopOfTerms}
+use Rattle.orders.specs.declared.stop.Stop.{Stop}
+use Rattle.orders.specs.declared.stop.Stop.TheVariants as stop
 use Rattle.audit.specs.Audits.{IsAuditOver, IsAuditReason, HasDifference}
 use Rattle.audit.specs.declared.difference.Difference.{Difference}
 use Rattle.audit.specs.declared.auditing.Audit.{Audit}

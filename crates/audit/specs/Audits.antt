@@ -9,9 +9,9 @@ use Rattle.claim_gate.specs.TermsFault.{HasTermsFault}
 use Rattle.orders.specs.Remittance.{IsOrderedRemittanceOf}
 use Rattle.evaluation.specs.Stop.{SpellsNoPlan}
 use Rattle.evaluation.specs.declared.stop.ValueStop.TheVariants as value
-use Rattle.adjudicate.specs.RunText.{IsOrderedRemittance, RunTexts}
-use Rattle.adjudicate.specs.declared.stop.Stop.{Stop}
-use Rattle.adjudicate.specs.declared.stop.Stop.TheVariants as stop
+use Rattle.orders.specs.RunTexts.{IsOrderedRemittance, RunTexts}
+use Rattle.orders.specs.declared.stop.Stop.{Stop}
+use Rattle.orders.specs.declared.stop.Stop.TheVariants as stop
 use Rattle.audit.specs.Differing.{IsFirstDifference}
 use Rattle.audit.specs.declared.auditing.Audit.{Audit}
 use Rattle.audit.specs.declared.auditing.Audit.TheVariants.{Same, Differs}

@@ -4,7 +4,7 @@ ghost use Rattle.std.specs.Prelude.{◌≡◌, ◌≢◌, IfErr, IfOk};
 ghost use Rattle.dtable.specs.PlanFile.{IsPlanText};
 ghost use Rattle.evaluation.specs.declared.stop.ValueStop.TheVariants.{NoMemory};
 ghost use Rattle.orders.specs.Remittance.{IsOrderedRemittanceOf};
-ghost use Rattle.adjudicate.specs.RunText.{IsOrderedRemittance};
+ghost use Rattle.orders.specs.RunTexts.{IsOrderedRemittance};
 ghost use Rattle.audit.specs.Audits.{IsAuditOver, IsAuditReason, HasDifference, audited_texts};
 
 use crate::difference::{Difference, first_difference};

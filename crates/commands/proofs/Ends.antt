@@ -1,11 +1,11 @@
 -- The exit status of a command from the library's result, by the lemmas of `value_command`.
 use Rattle.std.proofs.Common.{◌≡◌, ◌≢◌, ◌⊎◌, ℕ, List, Option, Result, OnErr, OnOk, inl, inr, refl}
 use Rattle.std.specs.Io.KnownBytes.{Keeps}
-use Rattle.adjudicate.specs.declared.stop.Stop.{Stop}
-use Rattle.adjudicate.specs.declared.stop.Stop.TheVariants.{Value}
+use Rattle.orders.specs.declared.stop.Stop.{Stop}
+use Rattle.orders.specs.declared.stop.Stop.TheVariants.{Value}
 use Rattle.adjudicate.specs.RunStop.{IsRunReason}
-use Rattle.adjudicate.specs.RunText.{RunTexts}
-use Rattle.adjudicate.specs.Stop.{status_of}
+use Rattle.orders.specs.RunTexts.{RunTexts}
+use Rattle.orders.specs.Stop.{status_of}
 use Rattle.evaluation.specs.declared.stop.ValueStop.TheVariants.{NoMemory}
 use Rattle.evaluation.specs.Stop.{WritesText}
 use Rattle.value_command.specs.Ends.{HasText, PutsText}

@@ -7,7 +7,7 @@ use Rattle.value_command.specs.Ends.{HasText}
 use Rattle.value_command.specs.Texts.{Whole}
 use Rattle.value_command.proofs.Ends.{unjudged_not_refused}
 use Rattle.journal.specs.declared.order.Order.{Order}
-use Rattle.adjudicate.specs.RunText.{RunTexts}
+use Rattle.orders.specs.RunTexts.{RunTexts}
 use Rattle.explanation.specs.Explained.{HasNoFamily, HasNoRecord, IsExplanation, IsFamilyExplanation, IsFoundIn, Writes, WritesFamily}
 use Rattle.explanation.specs.declared.explaining.Explained.{Explained}
 use Rattle.explanation.specs.declared.explaining.Explained.TheVariants as explained

@@ -5,7 +5,8 @@ use Rattle.journal.specs.declared.order.Order.TheVariants.{Any, Files, Service}
 use Rattle.evaluation.specs.Stop.{WritesText}
 use Rattle.orders.specs.Remittance.{IsOrderedRemittanceOf}
 use Rattle.claim_gate.specs.Terms.{TermsParts}
-use Rattle.adjudicate.specs.RunText.{IsOrderedRemittance, IsRemittance, IsRemittanceOf, RunTexts}
+use Rattle.orders.specs.RunTexts.{IsOrderedRemittance, RunTexts}
+use Rattle.adjudicate.specs.RunText.{IsRemittance, IsRemittanceOf}
 use Rattle.commands.specs.Ends.{IsRemittanceIn}
 
 -- a remittance in an order is a remittance

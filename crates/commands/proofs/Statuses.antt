@@ -7,7 +7,7 @@ use Rattle.console.specs.declared.exit_status.ExitStatus.TheVariants.{Done, Refu
 use Rattle.value_command.specs.Texts.{Whole}
 use Rattle.value_command.proofs.Ends.{unjudged_not_done, unjudged_not_refused}
 use Rattle.commands.specs.Ends.{AuditIsDone, AuditIsRefused, CommandIsRefused, HasRemittance, IsAudited, IsRefused, IsRefusedAudit, IsStatusOfRun, IsUnreadStatus, IsUnusedStatus, RunIsDone, RunIsRefused, IsRefusedRun}
-use Rattle.adjudicate.specs.RunText.{RunTexts}
+use Rattle.orders.specs.RunTexts.{RunTexts}
 use Rattle.commands.specs.Texts.{AreClosed, HasNamedTexts, IsNamedRemittance, texts_at}
 use Rattle.commands.specs.Words.{AsksStrict, IsCutoff, IsStrict, IsWorkers}
 use Rattle.commands.specs.declared.run.Texts.{Texts}

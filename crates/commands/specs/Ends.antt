@@ -9,12 +9,13 @@ use Rattle.console.specs.ExitStatus.{IsUnjudged}
 use Rattle.value_command.specs.Ends.{Ends, HasText, IsHelp, IsStatusOf, ValueIsDone, ValueIsRefused}
 use Rattle.value_command.specs.Texts.{IsNamedPlan, Whole}
 use Rattle.adjudicate.specs.declared.check.report.Findings.{Findings}
-use Rattle.adjudicate.specs.declared.stop.Stop.{Stop}
+use Rattle.orders.specs.declared.stop.Stop.{Stop}
 use Rattle.adjudicate.specs.RunStop.{IsRunReason}
 use Rattle.journal.specs.declared.order.Order.{Order}
 use Rattle.journal.specs.declared.order.Order.TheVariants.{Any}
-use Rattle.adjudicate.specs.RunText.{IsOrderedRemittance, IsRemittance, RunTexts}
-use Rattle.adjudicate.specs.Stop.{IsPlanReason, status_of}
+use Rattle.orders.specs.RunTexts.{IsOrderedRemittance, RunTexts}
+use Rattle.adjudicate.specs.RunText.{IsRemittance}
+use Rattle.orders.specs.Stop.{IsPlanReason, status_of}
 use Rattle.adjudicate.specs.Findings.{IsReportedText}
 use Rattle.commands.specs.declared.run.Texts.{Texts}
 use Rattle.audit.specs.Audits.{IsAuditReason}

@@ -9,8 +9,8 @@ use Rattle.value_command.specs.Texts.{Whole}
 use Rattle.value_command.specs.Words.{word_at}
 use Rattle.journal.specs.declared.order.Order.{Order}
 use Rattle.journal.specs.declared.order.Order.TheVariants.{Any, Files, Service}
-use Rattle.adjudicate.specs.RunText.{RunTexts}
-use Rattle.adjudicate.specs.Stop.{status_of}
+use Rattle.orders.specs.RunTexts.{RunTexts}
+use Rattle.orders.specs.Stop.{status_of}
 use Rattle.claim_gate.specs.Terms.{text_in, texts_of}
 use Rattle.explanation.specs.Explained.{HasNoFamily, HasNoRecord, IsExplainReason, IsExplanation, IsFamilyExplanation, IsFoundIn}
 use Rattle.explanation.specs.declared.finding.FoundClaim.{FoundClaim}

@@ -7,7 +7,7 @@ use Rattle.console.specs.declared.names.TheConstants.{BALANCES, FILE, REMITTANCE
 use Rattle.intake_csv.specs.Limits.{file_limit_bytes}
 use Rattle.value_command.specs.Texts.{IsNamedPlan, IsNamedText, Whole}
 use Rattle.value_command.specs.Words.{word_at, words_at}
-use Rattle.adjudicate.specs.RunText.{RunTexts}
+use Rattle.orders.specs.RunTexts.{RunTexts}
 use Rattle.remarks.specs.Quotes.{EndsInQuotes}
 use Rattle.commands.specs.declared.run.Texts.{Texts}
 

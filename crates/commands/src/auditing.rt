@@ -1,7 +1,7 @@
 //! The command `audit`: reads the texts of a run and a remittance, and says whether the remittance is that of the texts in an order.
 
 ghost use Rattle.std.specs.Prelude.{◌≡◌, ◌≢◌, IfErr, IfOk};
-ghost use Rattle.adjudicate.specs.Stop.{status_of};
+ghost use Rattle.orders.specs.Stop.{status_of};
 ghost use Rattle.console.specs.declared.exit_status.ExitStatus.TheVariants.{Done, Refused};
 ghost use Rattle.console.specs.ExitStatus.{IsUnjudged, code_of};
 ghost use Rattle.commands.specs.Ends.{AuditIsDone, AuditIsRefused, IsAudited, IsRefusedAudit};

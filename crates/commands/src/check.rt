@@ -3,7 +3,7 @@
 ghost use Rattle.std.specs.Prelude.{◌≡◌, ◌≢◌};
 ghost use Rattle.console.specs.declared.exit_status.ExitStatus.TheVariants.{Done, Refused};
 ghost use Rattle.std.specs.Io.KnownBytes.{Keeps};
-ghost use Rattle.adjudicate.specs.Stop.{IsPlanReason};
+ghost use Rattle.orders.specs.Stop.{IsPlanReason};
 ghost use Rattle.adjudicate.specs.Findings.{IsReportedText};
 ghost use Rattle.value_command.specs.Ends.{HasText, PutsText};
 ghost use Rattle.commands.specs.Ends.{CheckIsDone, CheckIsRefused, IsStatusOfRefusal};

@@ -10,11 +10,10 @@ use Rattle.journal.specs.declared.order.Order.{Order}
 use Rattle.claim_gate.specs.Terms.{TermsParts}
 use Rattle.claim_gate.specs.TermsFault.{HasTermsFault}
 use Rattle.evaluation.specs.declared.stop.ValueStop.TheVariants as value
-use Rattle.adjudicate.specs.RunStop.{IsStopOfTerms}
-use Rattle.adjudicate.specs.RunText.{AreTermsUnder, RunTexts}
-use Rattle.adjudicate.specs.Stop.{IsStopOfPlan}
-use Rattle.adjudicate.specs.declared.stop.Stop.{Stop}
-use Rattle.adjudicate.specs.declared.stop.Stop.TheVariants as stop
+use Rattle.orders.specs.RunTexts.{AreTermsUnder, RunTexts}
+use Rattle.orders.specs.Stop.{IsStopOfPlan, IsStopOfTerms}
+use Rattle.orders.specs.declared.stop.Stop.{Stop}
+use Rattle.orders.specs.declared.stop.Stop.TheVariants as stop
 use Rattle.explanation.specs.Asked.{IsTargetText, IsTargetTextOver}
 use Rattle.explanation.specs.declared.asked.Target.{Target}
 use Rattle.explanation.specs.declared.asked.Target.TheVariants.{Record, Family}

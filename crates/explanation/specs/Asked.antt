@@ -2,7 +2,7 @@
 use Rattle.std.specs.Prelude.{ℕ, List, Option}
 use Rattle.journal.specs.declared.order.Order.{Order}
 use Rattle.claim_gate.specs.Terms.{TermsParts, text_in, texts_of}
-use Rattle.adjudicate.specs.RunText.{RunTexts}
+use Rattle.orders.specs.RunTexts.{RunTexts}
 use Rattle.explanation.specs.Explained.{IsFamilyTextOf, IsTextOf}
 use Rattle.explanation.specs.Explanation.{IsTextOver}
 use Rattle.explanation.specs.FamilyExplanation.{IsFamilyTextOver}

@@ -10,9 +10,9 @@ use Rattle.claim_gate.specs.Terms.{TermsParts, text_in, texts_of}
 use Rattle.claim_gate.specs.TermsFault.{HasTermsFault}
 use Rattle.evaluation.specs.Stop.{SpellsNoPlan, WritesText}
 use Rattle.evaluation.specs.declared.stop.ValueStop.TheVariants as value
-use Rattle.adjudicate.specs.RunText.{AreTermsOfTexts, RunTexts}
-use Rattle.adjudicate.specs.declared.stop.Stop.{Stop}
-use Rattle.adjudicate.specs.declared.stop.Stop.TheVariants as stop
+use Rattle.orders.specs.RunTexts.{AreTermsOfTexts, RunTexts}
+use Rattle.orders.specs.declared.stop.Stop.{Stop}
+use Rattle.orders.specs.declared.stop.Stop.TheVariants as stop
 use Rattle.explanation.specs.Explanation.{IsExplanationOf, IsMissing}
 use Rattle.explanation.specs.FamilyExplanation.{HasNoClaim, IsFamilyExplanationOf}
 use Rattle.explanation.specs.Finding.{IsFound}

@@ -3,7 +3,7 @@ use Rattle.std.specs.Prelude.{◌≡◌, ◌≢◌, ℕ, List, ◌∷◌, ◌++�
 use Rattle.journal.specs.declared.order.Order.{Order}
 use Rattle.journal.specs.declared.order.Order.TheVariants.{Any}
 use Rattle.remit.specs.Report.{text_of}
-use Rattle.adjudicate.specs.RunText.{IsOrderedRemittance, RunTexts}
+use Rattle.orders.specs.RunTexts.{IsOrderedRemittance, RunTexts}
 use Rattle.explanation.specs.Explained.{IsExplanation}
 use Rattle.explanation.specs.Facts.{FactParts, facts_text}
 use Rattle.explanation.specs.Steps.{record_facts}

@@ -8,9 +8,9 @@ use crate::family_facts::family_text;
 use crate::format::Format;
 use crate::record_text::record_text;
 use crate::row::Place;
-use adjudicate::Stop;
 use claim_gate::{Order, Terms};
 use dtable::read_plan;
+use orders::Stop;
 use std::alloc::{AllocError, Global};
 use tables::Plan;
 

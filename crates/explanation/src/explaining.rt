@@ -7,10 +7,10 @@ ghost use Rattle.explanation.specs.Explained.{IsExplainReason, Writes, explained
 use crate::asked::{Asked, Target, explanation};
 use crate::format::Format;
 use crate::row::Place;
-use adjudicate::Stop;
 use claim_gate::Order;
 use evaluation::ValueStop;
 use fixpoint::{Out, ShortWrite, put_all};
+use orders::Stop;
 use std::alloc::Global;
 use std::io::Write;
 

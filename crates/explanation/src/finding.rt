@@ -10,13 +10,13 @@ ghost use Rattle.explanation.specs.Explained.{IsExplainReason, IsFoundIn, claim_
 ghost use Rattle.explanation.specs.Finding.{IsFound, found_in, place_with, places_in};
 
 use crate::row::Place;
-use adjudicate::Stop;
 use claim_gate::Terms;
 use dtable::read_plan;
 use intake_csv::{
     CsvRecord, RowSummary, given_row_is_the_first, no_records_give_no_rows,
     reader_begins_with_all_rows,
 };
+use orders::Stop;
 use std::alloc::{AllocError, Global};
 use tables::Plan;
 

@@ -2,7 +2,9 @@
 ghost use Rattle.orders.specs.Existence.{OrderHasAJournal, OrderTakesAllClaims};
 ghost use Rattle.orders.specs.Laws.{AcceptAlike, DecidedByOrder, ReportIsOfItsOrder, TotalsByOrder};
 ghost use Rattle.orders.specs.Remittance.{OneOrderedRemittance, TextsHaveOneOrderedRemittance};
+ghost use Rattle.orders.specs.RunTexts.{TextsHaveOneRemittance};
 
+use dtable::text_spells_at_most_one_plan;
 use feel_tests::field_spells_at_most_one_value;
 use intake_csv::text_has_one_list_of_rows;
 use journal::{finished_takes_all, order_leaves_no_choice};
@@ -58,6 +60,16 @@ pub fn texts_have_one_ordered_remittance()
     order_leaves_no_choice();
     text_has_one_list_of_rows();
     field_spells_at_most_one_value();
+}
+
+/// For given texts of the plan, the claims and the balances, and a given cutoff and order, there is
+/// at most one remittance in this order. It depends neither on the run nor on the number of threads.
+pub fn texts_have_one_remittance()
+    ensures { TextsHaveOneRemittance }
+{
+    // proof: a text denotes at most one plan, and under a plan there is at most one remittance
+    text_spells_at_most_one_plan();
+    texts_have_one_ordered_remittance();
 }
 
 /// An order of acceptance leaves out no claim: it has as many first claims as are asked for, up to

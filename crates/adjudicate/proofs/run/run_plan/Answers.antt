@@ -1,5 +1,6 @@
 use Rattle.std.proofs.lemmas.Result.{err_from_is_err_and}
-use Rattle.adjudicate.specs.RunText.{AreTermsOfTexts, run_texts}
+use Rattle.orders.specs.RunTexts.{AreTermsOfTexts}
+use Rattle.adjudicate.specs.RunText.{run_texts}
 use Rattle.adjudicate.proofs.Ordered.{ordered_over}
 use Rattle.adjudicate.proofs.Remittances.{closed_over, counted_over, failed_by_terms, kept_by_terms, reason_of_terms, reasons_over, stopped_over, whole_over}
 use Rattle.adjudicate.proofs.run.run_plan.Goals as goal

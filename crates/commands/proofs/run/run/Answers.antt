@@ -1,4 +1,4 @@
-use Rattle.adjudicate.specs.Stop.{status_of}
+use Rattle.orders.specs.Stop.{status_of}
 use Rattle.value_command.proofs.Ends.{ends_done, ends_refused}
 use Rattle.adjudicate.specs.RunText.{run_texts}
 use Rattle.commands.proofs.Ordered.{written_in_order}

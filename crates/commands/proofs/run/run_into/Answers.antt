@@ -1,6 +1,6 @@
 use Rattle.std.proofs.Common.{refl, rules}
-use Rattle.adjudicate.specs.declared.stop.Stop.TheVariants.{Value}
-use Rattle.adjudicate.specs.Stop.{status_of}
+use Rattle.orders.specs.declared.stop.Stop.TheVariants.{Value}
+use Rattle.orders.specs.Stop.{status_of}
 use Rattle.evaluation.specs.declared.stop.ValueStop.TheVariants.{NoMemory}
 use Rattle.value_command.proofs.Ends.{placed_refused, placed_through}
 use Rattle.commands.proofs.Ends.{resource_refused}

@@ -1,12 +1,10 @@
 //! The texts of a run's errors, for a line on standard error.
 
 ghost use Rattle.std.specs.Prelude.{◌≡◌, ◌≤◌, ◌++◌, length};
-ghost use Rattle.adjudicate.specs.Stop.{balance_fault_text, record_fault_text, run_fault_text, terms_fault_text};
+ghost use Rattle.orders.specs.Stop.{balance_fault_text, record_fault_text, run_fault_text, terms_fault_text};
 
-use claim_gate::TermsFault;
-use crew::RunFault;
 use evaluation::ErrorLine;
-use intake_csv::{BalanceFault, RowFault};
+use faults::{BalanceFault, RowFault, RunFault, TermsFault};
 
 /// Writes the text of a fault of the terms to an empty line.
 pub fn put_terms_fault(line: &mut ErrorLine, fault: &TermsFault)

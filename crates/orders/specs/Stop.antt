@@ -1,5 +1,5 @@
 -- The meaning of each error for the texts, its line on standard error, and its exit status. `value` defines them for its own errors.
-use Rattle.std.specs.Prelude.{ℕ, ◌++◌, Bool, List, [], ◌∷◌, codes, decimal, Option}
+use Rattle.std.specs.Prelude.{◌≡◌, ◌≢◌, ℕ, ◌++◌, Bool, List, [], ◌∷◌, codes, decimal, Option}
 use Rattle.std.specs.Io.KnownBytes.{Keeps}
 use Rattle.faults.specs.declared.plan_fault.PlanFault.{PlanFault}
 use Rattle.faults.specs.declared.file_fault.BalanceFault.{BalanceFault}
@@ -12,11 +12,14 @@ use Rattle.faults.specs.declared.terms_fault.TermsFault.TheVariants as terms
 use Rattle.faults.specs.RunFaultNumber.{number_of as run_number}
 use Rattle.faults.specs.declared.run_fault.RunFault.{RunFault}
 use Rattle.faults.specs.declared.run_fault.RunFault.TheVariants as run
+use Rattle.faults.specs.declared.write_fault.WriteCause.TheVariants as write
+use Rattle.faults.specs.declared.write_fault.WriteFault.{WriteFault}
 use Rattle.evaluation.specs.declared.stop.ValueStop.{ValueStop}
+use Rattle.evaluation.specs.declared.stop.ValueStop.TheVariants as value
 use Rattle.evaluation.specs.Stop.{IsPlanReason as IsPlanReasonOfValue, IsReason as IsReasonOfValue, IsStopOfPlan as IsValueStopOfPlan, WritesUntil as WritesUntilValueStop, failed_after as failed_after_value, status_of as status_of_value, stop_text as value_stop_text}
 use Rattle.evaluation.specs.ValueText.{line_end}
-use Rattle.adjudicate.specs.declared.stop.Stop.{Stop}
-use Rattle.adjudicate.specs.declared.stop.Stop.TheVariants as stop
+use Rattle.orders.specs.declared.stop.Stop.{Stop}
+use Rattle.orders.specs.declared.stop.Stop.TheVariants as stop
 
 -- the text ` record R cause C column K`
 abbrev pub record_fault_text : ℕ → RowFault → List ℕ
@@ -89,3 +92,21 @@ failed_after before _ = before
 -- the error for a fault of the plan's text
 abbrev pub IsStopOfPlan : PlanFault → Stop → Type 0
 IsStopOfPlan fault s = IsOfValue (IsValueStopOfPlan fault) s
+
+-- the error for a fault of the terms; a lack of memory is not a fault of the texts
+abbrev pub IsStopOfTerms : TermsFault → Stop → Type 0
+IsStopOfTerms fault (stop.Terms same) = (same ≡ fault) × (fault ≢ terms.OutOfMemory)
+IsStopOfTerms fault (stop.Value value.NoMemory) = fault ≡ terms.OutOfMemory
+IsStopOfTerms fault _ = ⊥
+
+-- the error for a fault of the run
+abbrev pub IsStopOfRun : RunFault → Stop → Type 0
+IsStopOfRun fault (stop.Run same) = (same ≡ fault) × (fault ≢ run.OutOfMemory)
+IsStopOfRun fault (stop.Value value.NoMemory) = fault ≡ run.OutOfMemory
+IsStopOfRun fault _ = ⊥
+
+-- the error for a fault that ended the writing of a remittance
+abbrev pub IsStopOfWrite : WriteFault → Stop → Type 0
+IsStopOfWrite fault (stop.Value (value.Write written)) = (written ≡ fault.written) × (fault.cause ≡ write.Device)
+IsStopOfWrite fault (stop.Value value.NoMemory) = fault.cause ≡ write.OutOfMemory
+IsStopOfWrite fault _ = ⊥

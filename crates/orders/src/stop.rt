@@ -1,16 +1,13 @@
 //! The errors that stop a command. Each error has one line on standard error and one exit status.
 
 ghost use Rattle.std.specs.Prelude.{◌≡◌, ◌≤◌, take};
-ghost use Rattle.adjudicate.specs.Stop.{status_of, stop_line};
+ghost use Rattle.orders.specs.Stop.{status_of, stop_line};
 
 mod line;
 
-use claim_gate::TermsFault;
-use crew::RunFault;
-use dtable::PlanFault;
 use evaluation::{ErrorLine, LINE_LIMIT_BYTES, Refusal, ValueStop};
+use faults::{PlanFault, RunFault, TermsFault, WriteCause, WriteFault};
 use line::{put_run_fault, put_terms_fault};
-use remit::{WriteCause, WriteFault};
 use std::alloc::AllocError;
 use thiserror::Error;
 
@@ -60,7 +57,7 @@ impl Stop {
 }
 
 impl Refusal for Stop {
-    ghost use Rattle.adjudicate.specs.Stop.{status_of, stop_line};
+    ghost use Rattle.orders.specs.Stop.{status_of, stop_line};
 
     ghost status = { λ stop. status_of stop };
 
@@ -77,7 +74,7 @@ impl Refusal for Stop {
 }
 
 impl From<PlanFault> for Stop {
-    ghost use Rattle.adjudicate.specs.Stop.{IsStopOfPlan};
+    ghost use Rattle.orders.specs.Stop.{IsStopOfPlan};
 
     ghost from_gives = { λ fault stop. IsStopOfPlan fault stop };
 
@@ -87,7 +84,7 @@ impl From<PlanFault> for Stop {
 }
 
 impl From<TermsFault> for Stop {
-    ghost use Rattle.adjudicate.specs.RunStop.{IsStopOfTerms};
+    ghost use Rattle.orders.specs.Stop.{IsStopOfTerms};
 
     ghost from_gives = { λ fault stop. IsStopOfTerms fault stop };
 
@@ -100,7 +97,7 @@ impl From<TermsFault> for Stop {
 }
 
 impl From<RunFault> for Stop {
-    ghost use Rattle.adjudicate.specs.RunStop.{IsStopOfRun};
+    ghost use Rattle.orders.specs.Stop.{IsStopOfRun};
 
     ghost from_gives = { λ fault stop. IsStopOfRun fault stop };
 
@@ -113,7 +110,7 @@ impl From<RunFault> for Stop {
 }
 
 impl From<WriteFault> for Stop {
-    ghost use Rattle.adjudicate.specs.RunStop.{IsStopOfWrite};
+    ghost use Rattle.orders.specs.Stop.{IsStopOfWrite};
 
     ghost from_gives = { λ fault stop. IsStopOfWrite fault stop };
 
@@ -129,7 +126,7 @@ impl From<WriteFault> for Stop {
 impl From<AllocError> for Stop {
     ghost use Rattle.std.specs.Prelude.{◌≡◌};
     ghost use Rattle.evaluation.specs.declared.stop.ValueStop.TheVariants.{NoMemory};
-    ghost use Rattle.adjudicate.specs.declared.stop.Stop.TheVariants.{Value};
+    ghost use Rattle.orders.specs.declared.stop.Stop.TheVariants.{Value};
 
     ghost from_gives = { λ _ stop. stop ≡ Value NoMemory };
 
