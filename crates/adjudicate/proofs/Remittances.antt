@@ -22,7 +22,7 @@ use Rattle.faults.specs.declared.terms_fault.TermsFault.TheVariants as terms
 use Rattle.crew.specs.Workers.{IsWorkerCount}
 use Rattle.faults.specs.declared.run_fault.RunFault.{RunFault}
 use Rattle.faults.specs.declared.run_fault.RunFault.TheVariants as run
-use Rattle.closing.specs.Text.{IsClosingText}
+use Rattle.adjudicate.specs.ClosingText.{IsClosingText}
 use Rattle.remit.specs.Counts.{AreRunCounts}
 use Rattle.remit.specs.declared.counts.RunCounts.{RunCounts}
 use Rattle.remit.specs.Report.{IsReport, report_records, text_of}

@@ -5,7 +5,7 @@ use Rattle.journal.specs.declared.event.Event.{Event}
 use Rattle.journal.specs.Lawful.{Finished}
 use Rattle.journal.specs.Terms.{Terms}
 use Rattle.claim_gate.specs.Terms.{IsFinishedOver, IsTermsOf, TermsParts, text_in, texts_of}
-use Rattle.closing.specs.Text.{IsClosingText}
+use Rattle.adjudicate.specs.ClosingText.{IsClosingText}
 use Rattle.orders.specs.RunTexts.{AreTermsOfTexts, RunTexts}
 use Rattle.remit.specs.Counts.{AreRunCounts}
 use Rattle.remit.specs.Report.{IsReport}

@@ -1,11 +1,11 @@
 //! What a run is asked for beside its remittance: the counts of its records, and its closing
 //! balances.
 ghost use Rattle.std.specs.Prelude.{◌≡◌, IfSome, option_map};
-ghost use Rattle.closing.specs.Text.{IsClosingText};
+ghost use Rattle.adjudicate.specs.ClosingText.{IsClosingText};
 ghost use Rattle.remit.specs.Counts.{AreRunCounts};
 
+use crate::closing::closing_text;
 use claim_gate::{Batch, Terms};
-use closing::closing_text;
 use remit::{RunCounts, count_run};
 use std::alloc::Global;
 use std::mem::forget;

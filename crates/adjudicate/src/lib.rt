@@ -3,30 +3,39 @@
 //!
 //! `value` has the command `value`, which `evaluation` implements. `check` has the command `check`,
 //! which reports the gaps and overlaps of a plan's tables. `run` has the command `run`, which
-//! settles claims and writes their remittance; `counting` keeps the counts of its records and its
-//! closing balances. The errors of the commands (`Stop`) come from `orders`, with the law that a
-//! remittance in an order is the only one.
+//! settles claims and writes their remittance; `counting` keeps the counts of its records, and
+//! `closing` has what each account has after the last claim. `audit` has the command `audit`, which
+//! says whether given bytes are the remittance of the texts in an order.
 //!
 //! Plans and their evaluation come from `tables`, the check of a plan and the violations of its hit
 //! policies come from `cutplan`, cells and values come from `feel_tests`, and numbers and the
 //! writer come from `fixpoint`. A run goes from the texts to their terms (`claim_gate`), to a
-//! finished journal (`crew`), to its remittance (`remit`), for which `orders` defines what an order
-//! of acceptance determines, and to its closing balances (`closing`).
+//! finished journal (`crew`), and to its remittance (`remit`). `orders` defines what an order of
+//! acceptance determines, and has the errors of the commands (`Stop`).
 //!
-//! Begin with `value.rt`, `check.rt` and `run.rt`: the contracts of `do_value`, `do_check`,
-//! `do_errors_check` and `do_run` are the promises of the commands. Then read
-//! `specs/CheckText.antt`, `specs/ErrorsText.antt`, `specs/RunText.antt`, and
-//! `specs/ValueText.antt` of `evaluation`, which define the output of the commands.
+//! Begin with `value.rt`, `check.rt`, `run.rt` and `audit.rt`: the contracts of `do_value`,
+//! `do_check`, `do_errors_check`, `do_run` and `do_audit` are the promises of the commands. Then
+//! read `specs/CheckText.antt`, `specs/ErrorsText.antt`, `specs/RunText.antt`, and
+//! `specs/ValueText.antt` of `evaluation`, which define the output of the commands, and
+//! `specs/Audits.antt`, `specs/Differing.antt` and `specs/RecordEnds.antt`, which define what an
+//! audit says of the bytes.
 #![tactic(auto)]
 
+mod audit;
 mod check;
+mod closing;
 mod counting;
 mod run;
 mod value;
 
+pub use audit::{Audit, AuditInput, Difference, decide_all, do_audit, record_count};
 pub use check::report::Findings;
 pub use check::{do_check, do_errors_check, do_findings_check};
 pub use claim_gate::Order;
+pub use closing::{
+    AccountKey, ClosingBalances, closing_balances, closing_balances_carry_on, closing_text,
+    closing_text_reads_back,
+};
 pub use counting::Counting;
 pub use crew::WORKERS_LIMIT;
 pub use dtable::PLAN_LIMIT_BYTES;

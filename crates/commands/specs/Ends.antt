@@ -18,7 +18,7 @@ use Rattle.adjudicate.specs.RunText.{IsRemittance}
 use Rattle.orders.specs.Stop.{IsPlanReason, status_of}
 use Rattle.adjudicate.specs.Findings.{IsReportedText}
 use Rattle.commands.specs.declared.run.Texts.{Texts}
-use Rattle.audit.specs.Audits.{IsAuditReason}
+use Rattle.adjudicate.specs.Audits.{IsAuditReason}
 use Rattle.commands.specs.Explanations.{ExplainIsDone, ExplainIsRefused}
 use Rattle.commands.specs.Texts.{AreClosed, HasNamedTexts, IsNamedRemittance, texts_at}
 use Rattle.commands.specs.Words.{AsksStrict, IsCutoff, IsStrict, IsFindings, IsOrder, IsWorkers}

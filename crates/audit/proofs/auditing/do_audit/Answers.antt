@@ -1,9 +1,0 @@
-use Rattle.std.proofs.lemmas.Result.{err_from_is_err_and}
-use Rattle.audit.specs.Audits.{audited_texts}
-use Rattle.audit.proofs.Audits.{reason_of_plan}
-use Rattle.audit.proofs.auditing.do_audit.Goals as goal
-
-pub returns-in_err-plan-clause-reason : goal.returns-in_err-plan-clause-reason
-returns-in_err-plan-clause-reason c =
-    let stopped = err_from_is_err_and c.from_residual.result c.from_residual.ensures.1 in
-    rw stopped.1 (reason_of_plan (audited_texts c.args.input) _ _ c.in_err-plan.ensures.refused stopped.2)

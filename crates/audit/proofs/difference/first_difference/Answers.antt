@@ -1,5 +1,0 @@
-use Rattle.audit.proofs.SharedRecords.{same_from_eq}
-use Rattle.audit.proofs.difference.first_difference.Goals as goal
-
-pub returns-then-eq-clause-same : goal.returns-then-eq-clause-same
-returns-then-eq-clause-same c = same_from_eq c.args.given.now c.args.due.now c.eq.result c.eq.ensures c.if-eq.true

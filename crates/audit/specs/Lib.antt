@@ -1,4 +1,0 @@
-pub mod Settling
-pub mod RecordEnds
-pub mod Differing
-pub mod Audits

@@ -1,6 +1,0 @@
-pub mod Entries
-pub mod Charges
-pub mod Closing
-pub mod Text
-pub mod CarryingOn
-pub mod ReadingBack
