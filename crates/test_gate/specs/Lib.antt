@@ -1,1 +1,4 @@
 pub mod Words
+pub mod Counts
+pub mod Names
+pub mod Lists
