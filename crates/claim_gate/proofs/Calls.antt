@@ -11,11 +11,11 @@ use Rattle.claim_gate.specs.Terms.{TermsParts, IsTermsOf, ForTerms}
 use Rattle.settlement.specs.declared.acc.Acc.{Acc}
 use Rattle.settlement.specs.declared.claim.Claim.{Claim}
 use Rattle.settlement.specs.declared.outcome.Outcome.{Outcome}
-use Rattle.lanes.specs.Places.{Place, is_decided, all_decided, phase_at, started, InTurn}
-use Rattle.lanes.specs.declared.ready_claim.ReadyClaim.{ReadyClaim}
-use Rattle.lanes.specs.declared.phase.Phase.{Phase}
-use Rattle.lanes.specs.declared.phase.Phase.TheVariants.{Waiting, Ready, InWork, Decided}
-use Rattle.lanes.specs.Calls.{next_phase, next_place, with_phase, with_decision, IsPicked, NothingReady}
+use Rattle.journal.specs.Places.{Place, is_decided, all_decided, phase_at, started, InTurn}
+use Rattle.journal.specs.declared.ready_claim.ReadyClaim.{ReadyClaim}
+use Rattle.journal.specs.declared.phase.Phase.{Phase}
+use Rattle.journal.specs.declared.phase.Phase.TheVariants.{Waiting, Ready, InWork, Decided}
+use Rattle.journal.specs.Calls.{next_phase, next_place, with_phase, with_decision, IsPicked, NothingReady}
 use Rattle.settlement.specs.Accounts.{account_of, account_year, family_of}
 use Rattle.settlement.specs.Opening.{opening}
 use Rattle.intake_csv.specs.Balances.{accounts_of}

@@ -16,10 +16,10 @@ use Rattle.settlement.specs.declared.acc.Acc.{Acc}
 use Rattle.settlement.specs.declared.account.Balance.{Balance}
 use Rattle.settlement.specs.declared.claim.Claim.{Claim}
 use Rattle.settlement.specs.declared.outcome.Outcome.{Outcome}
-use Rattle.lanes.specs.Places.{Place, is_of, is_decided, merge_acc, left_in, left_by, present, all_decided}
-use Rattle.lanes.specs.declared.phase.Phase.{Phase}
-use Rattle.lanes.specs.declared.phase.Phase.TheVariants.{Waiting, Ready, InWork, Decided}
-use Rattle.lanes.specs.Calls.{next_place, with_phase}
+use Rattle.journal.specs.Places.{Place, is_of, is_decided, merge_acc, left_in, left_by, present, all_decided}
+use Rattle.journal.specs.declared.phase.Phase.{Phase}
+use Rattle.journal.specs.declared.phase.Phase.TheVariants.{Waiting, Ready, InWork, Decided}
+use Rattle.journal.specs.Calls.{next_place, with_phase}
 use Rattle.settlement.specs.Opening.{opening}
 use Rattle.journal.specs.Terms.{Terms}
 use Rattle.journal.specs.Settled.{outcome_of, accumulated}

@@ -5,10 +5,10 @@ use Rattle.std.proofs.lemmas.Option.{none-some, same_Some}
 use Rattle.settlement.specs.Accounts.{account_of}
 use Rattle.settlement.specs.declared.acc.Acc.{Acc}
 use Rattle.settlement.specs.declared.claim.Claim.{Claim}
-use Rattle.lanes.specs.Places.{Place, is_of}
-use Rattle.lanes.specs.declared.phase.Phase.{Phase}
-use Rattle.lanes.specs.declared.phase.Phase.TheVariants.{Waiting, Ready, InWork, Decided}
-use Rattle.lanes.specs.Calls.{ready_at, release_first, with_decision}
+use Rattle.journal.specs.Places.{Place, is_of}
+use Rattle.journal.specs.declared.phase.Phase.{Phase}
+use Rattle.journal.specs.declared.phase.Phase.TheVariants.{Waiting, Ready, InWork, Decided}
+use Rattle.journal.specs.Calls.{ready_at, release_first, with_decision}
 use Rattle.journal.specs.Terms.{Terms}
 use Rattle.journal.specs.Events.{claim_at, before}
 use Rattle.journal.specs.declared.event.Event.{Event}

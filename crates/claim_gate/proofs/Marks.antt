@@ -8,10 +8,10 @@ use Rattle.std.proofs.lemmas.List.Sums.{sum_by-cons, sum_by_push}
 use Rattle.std.proofs.lemmas.Option.{none-some, same_Some}
 use Rattle.settlement.specs.declared.acc.Acc.{Acc}
 use Rattle.settlement.specs.declared.outcome.Outcome.{Outcome}
-use Rattle.lanes.specs.Places.{Place, is_of, is_decided, phase_at}
-use Rattle.lanes.specs.declared.phase.Phase.{Phase}
-use Rattle.lanes.specs.declared.phase.Phase.TheVariants.{Waiting, Ready, InWork, Decided}
-use Rattle.lanes.specs.Calls.{with_phase, ready_at, release_first, with_decision}
+use Rattle.journal.specs.Places.{Place, is_of, is_decided, phase_at}
+use Rattle.journal.specs.declared.phase.Phase.{Phase}
+use Rattle.journal.specs.declared.phase.Phase.TheVariants.{Waiting, Ready, InWork, Decided}
+use Rattle.journal.specs.Calls.{with_phase, ready_at, release_first, with_decision}
 use Rattle.journal.specs.Events.{accept_in, accepted_count, is_take, has_take, is_decide, has_decision}
 use Rattle.journal.specs.Gate.{is_any_decision}
 use Rattle.journal.specs.declared.event.Event.{Event}

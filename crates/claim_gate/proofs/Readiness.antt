@@ -10,11 +10,11 @@ use Rattle.std.proofs.lemmas.Slice.Eq.{bytes_eq-Decides}
 use Rattle.settlement.specs.Accounts.{Account, account_of, family_of}
 use Rattle.settlement.specs.Opening.{opening}
 use Rattle.settlement.specs.declared.acc.Acc.{Acc}
-use Rattle.lanes.specs.Places.{Place, is_of, is_waiting, is_ready, is_decided, all_decided, phase_at, present, started, InTurn}
-use Rattle.lanes.specs.declared.phase.Phase.{Phase}
-use Rattle.lanes.specs.declared.phase.Phase.TheVariants.{Waiting, Ready, InWork, Decided}
-use Rattle.lanes.specs.declared.ready_claim.ReadyClaim.{ReadyClaim}
-use Rattle.lanes.specs.Calls.{IsPicked, NothingReady, with_phase}
+use Rattle.journal.specs.Places.{Place, is_of, is_waiting, is_ready, is_decided, all_decided, phase_at, present, started, InTurn}
+use Rattle.journal.specs.declared.phase.Phase.{Phase}
+use Rattle.journal.specs.declared.phase.Phase.TheVariants.{Waiting, Ready, InWork, Decided}
+use Rattle.journal.specs.declared.ready_claim.ReadyClaim.{ReadyClaim}
+use Rattle.journal.specs.Calls.{IsPicked, NothingReady, with_phase}
 use Rattle.journal.specs.Terms.{Terms}
 use Rattle.journal.specs.Events.{accepted_count, has_take, has_decision, lane_at, before}
 use Rattle.journal.specs.Lawful.{IsReady}

@@ -14,10 +14,10 @@ use Rattle.settlement.specs.declared.claim.Claim.{Claim}
 use Rattle.settlement.specs.declared.outcome.Outcome.{Outcome}
 use Rattle.tables.specs.Plan.{PlanParts}
 use Rattle.claim_gate.specs.Terms.{TermsParts, AreTerms, texts_of, ForTerms}
-use Rattle.lanes.specs.Places.{Place, is_decided, phase_at, started, InTurn}
-use Rattle.lanes.specs.declared.phase.Phase.TheVariants.{InWork}
-use Rattle.lanes.specs.declared.ready_claim.ReadyClaim.{ReadyClaim}
-use Rattle.lanes.specs.Calls.{next_place, with_phase, with_decision, IsPicked, NothingReady}
+use Rattle.journal.specs.Places.{Place, is_decided, phase_at, started, InTurn}
+use Rattle.journal.specs.declared.phase.Phase.TheVariants.{InWork}
+use Rattle.journal.specs.declared.ready_claim.ReadyClaim.{ReadyClaim}
+use Rattle.journal.specs.Calls.{next_place, with_phase, with_decision, IsPicked, NothingReady}
 use Rattle.settlement.specs.Accounts.{account_of, account_year}
 use Rattle.settlement.specs.Opening.{opening}
 use Rattle.intake_csv.specs.Balances.{accounts_of}

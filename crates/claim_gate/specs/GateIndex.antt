@@ -6,10 +6,10 @@ use Rattle.claim_gate.specs.Terms.{TermsParts, ForTerms}
 use Rattle.settlement.specs.Accounts.{account_of}
 use Rattle.settlement.specs.declared.acc.Acc.{Acc}
 use Rattle.settlement.specs.declared.claim.Claim.{Claim}
-use Rattle.lanes.specs.Places.{Place, is_decided, phase_at}
-use Rattle.lanes.specs.declared.phase.Phase.{Phase}
-use Rattle.lanes.specs.declared.phase.Phase.TheVariants.{Waiting, Ready, InWork, Decided}
-use Rattle.lanes.specs.Calls.{is_decided_at}
+use Rattle.journal.specs.Places.{Place, is_decided, phase_at}
+use Rattle.journal.specs.declared.phase.Phase.{Phase}
+use Rattle.journal.specs.declared.phase.Phase.TheVariants.{Waiting, Ready, InWork, Decided}
+use Rattle.journal.specs.Calls.{is_decided_at}
 use Rattle.journal.specs.Terms.{Terms}
 use Rattle.journal.specs.Events.{accepts, accepted_count, places, has_end, closed, has_take, has_decision, claim_at, before, reached}
 use Rattle.journal.specs.Lawful.{Lawful}

@@ -1,8 +1,7 @@
 //! Claims that are being decided.
 ghost use Rattle.std.specs.Prelude.{◌≡◌, IfOk};
 
-use journal::BoxedOutcome;
-use lanes::BoxedClaim;
+use journal::{BoxedClaim, BoxedOutcome};
 use settlement::Acc;
 use std::alloc::{AllocError, Global};
 

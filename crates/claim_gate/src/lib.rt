@@ -4,8 +4,8 @@
 //! A `GateState` is the gate as a single thread uses it. An intake, which reads a provider's file, calls `offer` and `end`; a
 //! worker, which decides claims, calls `take` and `finish`; `stop` ends the run. The journal is always valid. A `Batch` is a
 //! run whose journal is finished. A `LockedGate` protects a `GateState` with a lock from `turn_lock`, and the trait `Gate` has
-//! the calls of its users. The trait `Prefetching` adds a call that saves time and changes no result. `lanes` orders the claims
-//! of a family, and `journal` defines journals and the calls.
+//! the calls of its users. The trait `Prefetching` adds a call that saves time and changes no result. `journal`
+//! orders the claims of a family, and defines journals and the calls.
 //!
 //! `Terms::new` takes a plan, the texts of the providers' files, the text of the balances and a cutoff, and returns their
 //! `Terms`, or the first `TermsFault`; `Terms::with_order` also takes the `Order` in which claims are accepted.
@@ -39,8 +39,7 @@ pub use fault::{EndFault, FinishFault, OfferFault, TakeFault};
 pub use faults::TermsFault;
 pub use gate::Gate;
 pub use job::{DecidedJob, Job};
-pub use journal::{BoxedOutcome, Event, Order};
-pub use lanes::BoxedClaim;
+pub use journal::{BoxedClaim, BoxedOutcome, Event, Order};
 pub use laws::{claim_lists_exist, families_of_texts_are_their_members};
 pub use locked::LockedGate;
 pub use offer::Offer;

@@ -13,8 +13,7 @@ use crate::offer::Offer;
 use crate::prefetching::{Prefetching, SerialPrefetching};
 use crate::reply::{Ended, Taken};
 use crate::serial::SerialGate;
-use journal::{BoxedOutcome, jobs_are_stable};
-use lanes::BoxedClaim;
+use journal::{BoxedClaim, BoxedOutcome, jobs_are_stable};
 use std::sync::Wait;
 use turn_lock::{Pass, Section, TicketLock};
 

@@ -1,6 +1,6 @@
 //! Offers of claims.
 
-use lanes::BoxedClaim;
+use journal::BoxedClaim;
 
 /// An offer of a provider's claim. Providers count from 1.
 #[derive(Drop)]

@@ -3,7 +3,7 @@
 use crate::answer::WornOut;
 use crate::gate::Gate;
 use crate::serial::SerialGate;
-use lanes::BoxedClaim;
+use journal::BoxedClaim;
 use std::sync::Wait;
 
 /// A shared gate that prefetches. Prefetching saves time and changes no result.

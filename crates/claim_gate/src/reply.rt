@@ -1,7 +1,7 @@
 //! The results of a gate's calls that are not refused.
 
 use crate::job::Job;
-use lanes::BoxedClaim;
+use journal::BoxedClaim;
 
 /// The result of an accepted claim.
 #[derive(Clone, Copy, PartialEq, Eq, Drop)]

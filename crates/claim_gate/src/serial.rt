@@ -8,8 +8,7 @@ use crate::offer::Offer;
 use crate::prefetching::SerialPrefetching;
 use crate::reply::{Ended, Taken};
 use crate::state::GateState;
-use journal::{BoxedOutcome, Event};
-use lanes::BoxedClaim;
+use journal::{BoxedClaim, BoxedOutcome, Event};
 use turn_lock::Growing;
 
 impl<'t> Growing for GateState<'t> {

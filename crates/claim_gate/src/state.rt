@@ -6,7 +6,7 @@ ghost use Rattle.journal.specs.Events.{places, has_end, closed, has_take, has_de
 ghost use Rattle.journal.specs.Gate.{LeadsTo, Offers, Ends, Takes, Finishes, Stops, Counts as AreCounts};
 ghost use Rattle.journal.specs.Settled.{outcome_of};
 ghost use Rattle.journal.specs.declared.event.Event.TheVariants as events;
-ghost use Rattle.lanes.specs.Places.{started};
+ghost use Rattle.journal.specs.Places.{started};
 ghost use Rattle.settlement.specs.Accounts.{account_of};
 ghost use Rattle.intake_csv.specs.Balances.{accounts_of};
 ghost use Rattle.claim_gate.specs.GateIndex.{is_due};
@@ -24,9 +24,9 @@ use crate::offer::Offer;
 use crate::reply::{Accepted, Ended, Recorded, Taken};
 use crate::terms::Terms;
 use journal::{
-    BoxedOutcome, Event, due_claim_stays_in_order, empty_journal_is_lawful, gate_keeps_lawful,
+    BoxedClaim, BoxedOutcome, Event, Lanes, ReadyClaim, due_claim_stays_in_order,
+    empty_journal_is_lawful, gate_keeps_lawful,
 };
-use lanes::{BoxedClaim, Lanes, ReadyClaim};
 use settlement::{Acc, account_year, after};
 use std::alloc::{AllocError, Global};
 use std::marker::Model;

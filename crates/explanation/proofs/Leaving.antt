@@ -15,7 +15,7 @@ use Rattle.journal.specs.Events.{Book, Filed, claim_filed, noted}
 use Rattle.journal.specs.Settled.{accumulated, outcome_of}
 use Rattle.journal.specs.Terms.{Terms}
 use Rattle.claim_gate.specs.Terms.{TermsParts}
-use Rattle.lanes.specs.Places.{merge_acc}
+use Rattle.journal.specs.Places.{merge_acc}
 use Rattle.orders.specs.Order.{before_by, claims_by}
 use Rattle.explanation.specs.Cases.{IsPlaceOf, is_of_account, last_of, last_with}
 use Rattle.explanation.specs.Families.{IsStanding, begun_with, left_after, left_by, present_for}

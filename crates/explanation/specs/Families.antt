@@ -12,7 +12,7 @@ use Rattle.intake_csv.specs.Balances.{accounts_of}
 use Rattle.journal.specs.Events.{Book, Filed}
 use Rattle.journal.specs.Terms.{Terms}
 use Rattle.claim_gate.specs.Terms.{TermsParts}
-use Rattle.lanes.specs.Places.{merge_acc}
+use Rattle.journal.specs.Places.{merge_acc}
 use Rattle.orders.specs.Order.{before_by}
 use Rattle.explanation.specs.Cases.{IsPlaceOf, last_of}
 use Rattle.explanation.specs.declared.family.LastClaim.{LastClaim}

@@ -3,7 +3,7 @@ ghost use Rattle.std.specs.Prelude.{◌≡◌, ◌==◌, ◌&&◌, IfOk, IfSome,
 ghost use Rattle.std.specs.Str.{bytes_eq};
 ghost use Rattle.settlement.specs.Claim.{IsClaimOf};
 ghost use Rattle.settlement.specs.Settlement.{outcome};
-ghost use Rattle.lanes.specs.Places.{merge_acc};
+ghost use Rattle.journal.specs.Places.{merge_acc};
 ghost use Rattle.explanation.specs.Families.{Adds, IsOfAccountAt, left_after, merged, opened, present_for};
 
 use crate::row::Place;

@@ -11,3 +11,17 @@ pub mod Worked
 pub mod Turns
 pub mod Families
 pub mod InOrder
+pub mod ClaimOrder
+pub mod Keys
+pub mod Slots
+pub mod Neighbours
+pub mod Numbers
+pub mod Linking
+pub mod Links
+pub mod FamilyYears
+pub mod BackLinks
+pub mod LastAccumulators
+pub mod Queue
+pub mod Work
+pub mod Growing
+pub mod Moves

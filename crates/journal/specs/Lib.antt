@@ -9,3 +9,8 @@ pub mod Turns
 pub mod Families
 pub mod TestWords
 pub mod InOrder
+pub mod Places
+pub mod Calls
+pub mod Names
+pub mod LastByKey
+pub mod FamilyQueues

@@ -1,4 +1,4 @@
-//! Tests of `settlement`, `lanes`, `intake_csv`, `claim_gate` and `ordered_claims` by worked examples.
+//! Tests of `settlement`, `journal`, `intake_csv`, `claim_gate` and `ordered_claims` by worked examples.
 //! Those of the first two are what no run shows: calls that are refused memory, and hosts with
 //! valuers of their own. They are a crate of their own, since the tests of a crate are proved
 //! together with all of its code.

@@ -2,12 +2,12 @@
 //! once for each of its allocations, with that allocation refused, so calls that run out of memory
 //! are repeated.
 ghost use Rattle.std.specs.Prelude.{ℕ, IfSome};
-ghost use Rattle.lanes.specs.Calls.{IsInWork};
+ghost use Rattle.journal.specs.Calls.{IsInWork};
 
 use crate::ending::{expects, fail};
 use crate::settling::{acc, money, text};
 use feel_tests::Day;
-use lanes::{BoxedClaim, Lanes, ReadyClaim};
+use journal::{BoxedClaim, Lanes, ReadyClaim};
 use settlement::{Acc, Claim, Money};
 use std::alloc::{AllocFailed, Global};
 use std::process::Abort;

@@ -1,7 +1,7 @@
 use Rattle.std.proofs.Common.{Option, subst}
 use Rattle.std.specs.Option.{IfSome}
-use Rattle.lanes.specs.Calls.{IsInWork}
-use Rattle.lanes.specs.declared.ready_claim.ReadyClaim.{ReadyClaim}
+use Rattle.journal.specs.Calls.{IsInWork}
+use Rattle.journal.specs.declared.ready_claim.ReadyClaim.{ReadyClaim}
 use Rattle.test_claims.proofs.turns.decide_next.Goals as goal
 
 pub decide-requires : goal.decide-requires

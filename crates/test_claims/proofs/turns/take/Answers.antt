@@ -1,4 +1,4 @@
-use Rattle.lanes.proofs.Work.{others-work, taken-work}
+use Rattle.journal.proofs.Work.{others-work, taken-work}
 use Rattle.test_claims.proofs.turns.take.Goals as goal
 
 pub returns-clause-work : goal.returns-clause-work
