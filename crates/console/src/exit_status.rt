@@ -8,7 +8,7 @@ ghost use Rattle.console.specs.ExitStatus.{code_of};
 
 use clap::Error;
 use clap::error::ErrorKind;
-use printable::push_printable;
+use faults::push_printable;
 use std::io;
 
 /// How the program ends.

@@ -5,7 +5,7 @@ use crate::places::Step;
 use crate::position::position_of;
 use crate::scanner::places_of;
 use crate::texts::Explanation;
-use printable::push_printable;
+use faults::push_printable;
 use std::alloc::{AllocError, Global};
 
 /// The most bytes that are shown of a word, and of a line before its mark and after it.

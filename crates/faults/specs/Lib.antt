@@ -9,3 +9,4 @@ pub mod FileFaultNumber
 pub mod TermsFaultNumber
 pub mod RunFaultNumber
 pub mod WriteCauseNumber
+pub mod Printable

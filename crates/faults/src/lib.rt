@@ -1,9 +1,12 @@
-//! The faults of cells, plans, tables, files, terms, runs and reports, and the number of each in the program's messages; the reason for which
-//! a fault of the tables pends a claim, with its words; and what each refusal of a command has. Also the words that several crates share: the keys
-//! and numbers of a plan's roles, the built-in names, and numbers that count from 1.
+//! The faults of cells, plans, tables, files, terms, runs and reports, and the number of each in the
+//! program's messages; the reason for which a fault of the tables pends a claim, with its words; and
+//! what each refusal of a command has. Also the words that several crates share: the keys and
+//! numbers of a plan's roles, the built-in names, numbers that count from 1, and the characters that
+//! no message shows (`printable`).
 //!
-//! These types need nothing of the crates that find the faults, so that the explanations of faults need nothing of those crates either. Each
-//! crate that finds faults hands their types on by its own root.
+//! These types need nothing of the crates that find the faults, so that the explanations of faults
+//! need nothing of those crates either. Each crate that finds faults hands their types on by its own
+//! root.
 #![tactic(auto)]
 
 mod cell_fault;
@@ -12,6 +15,7 @@ mod file_fault;
 pub mod names;
 mod ordinal;
 mod plan_fault;
+mod printable;
 mod reason;
 mod refusal;
 mod role;
@@ -25,6 +29,7 @@ pub use fault::Fault;
 pub use file_fault::{BalanceFault, FileFault, RowCause, RowFault};
 pub use ordinal::Ordinal;
 pub use plan_fault::{PlanCause, PlanFault};
+pub use printable::push_printable;
 pub use reason::Reason;
 pub use refusal::{LINE_LIMIT_BYTES, Refusal};
 pub use role::Role;

@@ -1,7 +1,7 @@
 use Rattle.std.proofs.Common.{◌≡◌, ◌++◌, IsUtf8, string_bytes}
 use Rattle.std.specs.Str.Iter.{chars_rest}
-use Rattle.printable.specs.Printable.{shown_text}
-use Rattle.printable.proofs.push_printable.Given as goal
+use Rattle.faults.specs.Printable.{shown_text}
+use Rattle.faults.proofs.printable.push_printable.Given as goal
 
 abbrev pub invariant-loop-character : goal.invariant-loop-character
 invariant-loop-character l = IsUtf8 (chars_rest l.character-iterator)

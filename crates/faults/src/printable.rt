@@ -1,9 +1,7 @@
-//! Replaces characters of a text that a terminal would obey or not show: control characters, those that turn the direction of a line, and those without
-//! a width.
-#![tactic(auto)]
-
+//! Replaces characters of a text that a terminal would obey or not show: control characters, those
+//! that turn the direction of a line, and those without a width.
 ghost use Rattle.std.specs.Prelude.{◌≡◌, ◌++◌, OnOk, string_bytes};
-ghost use Rattle.printable.specs.Printable.{is_hidden, shown_as, shown_text};
+ghost use Rattle.faults.specs.Printable.{is_hidden, shown_as, shown_text};
 
 use std::alloc::AllocError;
 

@@ -2,7 +2,7 @@
 use Rattle.std.proofs.Common.{◌≡◌, ℕ, List, [], length, ◌++◌, map, IsUtf8, encode_utf8, encode_utf8_all, ap, ◌∙◌}
 use Rattle.std.proofs.lemmas.Str.{chars-nil, chars_past_char}
 use Rattle.std.proofs.lemmas.List.{nil_from_length}
-use Rattle.printable.specs.Printable.{shown_as, shown_text}
+use Rattle.faults.specs.Printable.{shown_as, shown_text}
 
 -- the replacement of a text begins with the replacement of its first character
 pub shown_step : (text rest : List ℕ) (character : ℕ) → IsUtf8 text → text ≡ encode_utf8 character ++ rest

@@ -1,7 +1,7 @@
 use Rattle.std.proofs.Common.{sym, ◌∙◌, append_assoc, append-nil}
 use Rattle.std.proofs.lemmas.Str.{IsUtf8-past_char}
-use Rattle.printable.proofs.PrintableTexts.{shown_step, shown_of_none}
-use Rattle.printable.proofs.push_printable.Goals as goal
+use Rattle.faults.proofs.PrintableTexts.{shown_step, shown_of_none}
+use Rattle.faults.proofs.printable.push_printable.Goals as goal
 
 pub loop-character-preserved : goal.loop-character-preserved
 loop-character-preserved c =
