@@ -80,9 +80,10 @@ impl Hints {
         }
     }
 
-    // The result is at most the second last place, and the place after it has the second hint.
+    // The result is at most the second last place, and the place after it has the second hint. In this
+    // hash the last bytes of a name hardly change the high half, so both halves select the place.
     fn place_of(&self, bits: u64) -> usize {
-        (bits >> 32) as usize & self.numbers.len().wrapping_sub(HINTS_A_PLACE)
+        (bits ^ (bits >> 32)) as usize & self.numbers.len().wrapping_sub(HINTS_A_PLACE)
     }
 
     /// Makes more hints if there are too few for the number of names. Earlier hints may get lost.
