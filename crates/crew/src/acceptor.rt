@@ -7,6 +7,7 @@ ghost use Rattle.crew.specs.Passes.{GoesOn, LeavesWith};
 
 use crate::fetching::Fetching;
 use crate::offering::{end, offer};
+use crate::reading_signal::ReadingSignal;
 use crate::shared::{Exit, Onward, Shared};
 use claim_gate::Gate;
 use faults::RunFault;
@@ -123,13 +124,20 @@ fn offer_while_reading<'t, R: Threads + Wait + Sync, G: Gate, F: Fetching<G>>(
         (LeavesWith (G.has_pass shared.now.gate.now) G.is_worn G.known pass) }
 {
     let rt = shared.rt;
+    let signal = ReadingSignal::new(shared.terms.order());
+    let done = &signal;
+    let reading = &signal;
     join(
         rt,
         move || -> ClaimReaders
             requires { IsSync R.row × (0 < threads) }
             ensures terms { result.terms ≡ readers.entry.terms }
             ensures taken { result.taken ≡ readers.entry.taken }
-        { readers.read_ahead(rt, threads) },
+        {
+            let read = readers.read_ahead(rt, threads);
+            done.note_done();
+            read
+        },
         move || -> Result<Onward<Offered, G::Pass>, Exit<G::Pass>>
             requires { G.has_pass shared.now.gate.now pass
                 × IsAtClaim shared.now.terms.now (G.known pass).seen queues }
@@ -140,16 +148,17 @@ fn offer_while_reading<'t, R: Threads + Wait + Sync, G: Gate, F: Fetching<G>>(
                 queues.entry r.value) }
             ensures leaves { IfErr result
                 (LeavesWith (G.has_pass shared.entry.now.gate.now) G.is_worn G.known pass) }
-        { offer_turns(shared, fetching, pass, queues) },
+        { offer_turns(shared, fetching, pass, queues, reading) },
     )
 }
 
-// Offers the claims that are read, turn after turn.
+// Offers the claims that are read, turn after turn, until none is left or the readers can read on.
 fn offer_turns<'t, R: Wait, G: Gate, F: Fetching<G>>(
     shared: &Shared<R, G>,
     fetching: &F,
     mut pass: G::Pass,
     mut claims: ClaimQueues<'t>,
+    reading: &ReadingSignal,
 ) -> Result<Onward<Offered<'t>, G::Pass>, Exit<G::Pass>>
     requires own { G.has_pass shared.now.gate.now pass }
     requires at { IsAtClaim shared.now.terms.now (G.known pass).seen claims }
@@ -160,6 +169,7 @@ fn offer_turns<'t, R: Wait, G: Gate, F: Fetching<G>>(
     ensures leaves { IfErr result
         (LeavesWith (G.has_pass shared.now.gate.now) G.is_worn G.known pass) }
 {
+    let mut turns = 0_usize;
     'turns: loop {
         let onward = match offer_turn(shared, fetching, pass, &mut claims) {
             Ok(onward) => onward,
@@ -167,7 +177,16 @@ fn offer_turns<'t, R: Wait, G: Gate, F: Fetching<G>>(
         };
         let Onward { value, pass: back } = onward;
         match value {
-            AcceptorStep::NextClaim => pass = back,
+            AcceptorStep::NextClaim => {
+                turns = turns.saturating_add(1);
+                if reading.ends_round(turns) {
+                    return Ok(Onward {
+                        value: Offered::Part(claims),
+                        pass: back,
+                    });
+                }
+                pass = back;
+            }
             AcceptorStep::ReadOn => return Ok(Onward {
                 value: Offered::Part(claims),
                 pass: back,

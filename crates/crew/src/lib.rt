@@ -16,6 +16,7 @@ mod fetching;
 mod intake;
 mod least_fault;
 mod offering;
+mod reading_signal;
 mod shared;
 mod stopping;
 mod threads;

@@ -9,12 +9,13 @@ use feel_tests::Day;
 use std::alloc::{AllocError, Global};
 use std::collections::VecDeque;
 
-/// The maximum number of claims of a file in memory: those in its queue and those read ahead.
-const CLAIMS_LIMIT: usize = 8_192;
-
 /// The maximum number of claims of a file that are read ahead at once. To read them takes some
 /// milliseconds, far longer than to start a thread.
 const AHEAD_LIMIT: usize = 4_096;
+
+/// The maximum number of claims that are read ahead at once of a file that has given none. Such a
+/// file must not delay those whose claims come next.
+const AHEAD_UNGIVEN_LIMIT: usize = 1_024;
 
 /// The claims of a provider's file that are read and not given yet.
 pub(crate) struct FileQueue {
@@ -88,9 +89,14 @@ impl FileQueue {
         claim
     }
 
-    /// Takes the claims that the reader of the file has read ahead. Returns whether the next claim of
-    /// the file is in the queue, or no claim of the file is left. The only error is that memory runs out.
-    pub(crate) fn take_from(&mut self, reader: &mut FileReader<'_>) -> Result<bool, AllocError>
+    /// Takes the claims that the reader of the file has read ahead. From then on it reads ahead until
+    /// `limit` claims of the file are in memory. Returns whether the next claim of the file is in the
+    /// queue, or no claim of the file is left. The only error is that memory runs out.
+    pub(crate) fn take_from(
+        &mut self,
+        reader: &mut FileReader<'_>,
+        limit: usize,
+    ) -> Result<bool, AllocError>
         requires joined { reader.old.taken ≡ read_of self.old }
         requires placed { IsPlaced reader.old }
         requires fits { read_of self.old < 2 ^ 64 }
@@ -100,10 +106,18 @@ impl FileQueue {
         let count = reader.ahead.len();
         self.claims.append(&mut reader.ahead)?;
         reader.taken += count;
-        reader.wanted = CLAIMS_LIMIT
-            .saturating_sub(self.claims.len())
-            .min(AHEAD_LIMIT);
+        reader.wanted = self.count_to_read(limit);
         self.is_last = reader.is_over;
         Ok(self.is_stocked())
+    }
+
+    // Returns the number of claims to be read ahead at once, so that at most `limit` are in memory.
+    fn count_to_read(&self, limit: usize) -> usize {
+        let piece = if self.given == 0 {
+            AHEAD_UNGIVEN_LIMIT
+        } else {
+            AHEAD_LIMIT
+        };
+        limit.saturating_sub(self.claims.len()).min(piece)
     }
 }

@@ -9,8 +9,17 @@ use crate::heads::{claims_before_others, first_head};
 use crate::next_claim::NextClaim;
 use crate::readers::ClaimReaders;
 use claim_gate::{BoxedClaim, Offer, Terms};
+use journal::Order;
 use std::alloc::{AllocError, Global};
 use std::marker::Model;
+
+/// The maximum number of claims of a file in memory, or more where files are given one after another.
+const CLAIMS_LIMIT: usize = 8_192;
+
+/// Where files are given one after another, a claim in memory for as many bytes of the file. One reader
+/// alone is slower than the run, so that claims of later files are read while earlier ones are given.
+/// The memory for them is small beside that of the run.
+const BYTES_A_CLAIM_AHEAD: usize = 512;
 
 /// The claims of all files that are read and not given yet. It gives them in the order of the terms,
 /// up to the first claim that may follow one that is not read.
@@ -142,10 +151,23 @@ fn take_each(
         if readers[index].has_failed {
             return Err(AllocError);
         }
-        let stocked = queues[index].take_from(&mut readers[index])?;
+        let limit = claims_limit(terms, index);
+        let stocked = queues[index].take_from(&mut readers[index], limit)?;
         if !stocked {
             all = false;
         }
     }
     Ok(all)
+}
+
+// Returns the maximum number of claims of the file at an index in memory.
+fn claims_limit(terms: &Terms, index: usize) -> usize {
+    let Order::Files = terms.order() else {
+        return CLAIMS_LIMIT;
+    };
+    let bytes = match terms.files().get(index) {
+        Some(text) => text.len(),
+        None => 0,
+    };
+    CLAIMS_LIMIT.max(bytes / BYTES_A_CLAIM_AHEAD)
 }

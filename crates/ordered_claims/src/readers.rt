@@ -61,8 +61,8 @@ impl<'t> ClaimReaders<'t> {
     }
 
     /// Reads claims of all files ahead, in at most `threads` threads, and returns the readers. It reads
-    /// at most 4,096 claims of a file, and fewer where as many are read and not given. If memory runs
-    /// out, no more claims can be taken.
+    /// at most 4,096 claims of a file, 1,024 of one that has given none, and fewer where enough are in
+    /// memory. If memory runs out, no more claims can be taken.
     pub fn read_ahead<R: Threads + Sync>(mut self, rt: &R, threads: usize) -> ClaimReaders<'t>
         requires { 0 < threads }
         ensures terms { result.terms ≡ self.entry.terms }

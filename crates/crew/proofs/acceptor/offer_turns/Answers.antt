@@ -31,6 +31,15 @@ turns-smaller g c =
     let offered = rw c.in-NextClaim.is at c.in-Ok.ensures.step in
     offered.fewer
 
+pub returns-then-ends_round-clause-goes_on : goal.returns-then-ends_round-clause-goes_on
+returns-then-ends_round-clause-goes_on g c =
+    further (g.G.Gate.has_pass c.args.shared.now.gate.now) g.G.Gate.known c.args.pass c.turns.pass c.in-Ok.onward.pass c.turns.invariant.0 c.in-Ok.ensures.goes_on
+
+pub returns-then-ends_round-clause-offered : goal.returns-then-ends_round-clause-offered
+returns-then-ends_round-clause-offered g c =
+    let offered = rw c.in-NextClaim.is at c.in-Ok.ensures.step in
+    record { at = offered.between.at; read = offered.between.read ∙ c.turns.invariant.1.read }
+
 pub returns-in-ReadOn-clause-goes_on : goal.returns-in-ReadOn-clause-goes_on
 returns-in-ReadOn-clause-goes_on g c =
     further (g.G.Gate.has_pass c.args.shared.now.gate.now) g.G.Gate.known c.args.pass c.turns.pass c.in-Ok.onward.pass c.turns.invariant.0 c.in-Ok.ensures.goes_on
