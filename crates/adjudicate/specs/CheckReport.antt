@@ -12,8 +12,8 @@ use Rattle.adjudicate.specs.declared.check.report.Findings.{Findings}
 use Rattle.adjudicate.specs.declared.check.report.CheckReport.{CheckReport}
 use Rattle.adjudicate.specs.declared.check.report.TableReport.{TableReport}
 use Rattle.evaluation.specs.ValueText.{line_end}
-use Rattle.adjudicate.specs.CheckText.{counts_line, is_wide, overlap_line, region_text, table_numbers, wide_line}
-use Rattle.adjudicate.specs.Findings.{gap_count_in, gaps_in, overlap_count_in, overlaps_in, reports_gaps}
+use Rattle.adjudicate.specs.CheckText.{counts_line, overlap_line, region_text, table_numbers, wide_line}
+use Rattle.adjudicate.specs.Findings.{gap_count_in, gaps_in, overlap_count_in, overlaps_in, reports_gaps, reports_wide}
 
 -- the text between two regions
 abbrev pub separator : List ℕ
@@ -50,7 +50,7 @@ reported_places findings plan table None = []
 -- the report on the table with this number
 pub record IsReported (findings : Findings) (plan : PlanParts) (table : ℕ) (reported : TableReport) : Type 0 where
   pub overlaps : reported.overlaps.items ≡ overlaps_in findings plan table
-  pub wide : reported.is_wide ≡ is_wide plan table
+  pub wide : reported.is_wide ≡ reports_wide findings plan table
   pub gaps : map (cell_text reported.columns) reported.gaps.items ≡ map (join_by region_text separator) (gaps_in findings plan table)
 
 -- the reports on the tables from this number on

@@ -1,5 +1,5 @@
 -- The texts of `check` by the findings that it reports: all of them, or only the errors.
-use Rattle.std.specs.Prelude.{ℕ, ◌++◌, Bool, true, if◌then◌else◌, List, [], length, flat_map}
+use Rattle.std.specs.Prelude.{ℕ, ◌++◌, ◌&&◌, Bool, true, if◌then◌else◌, List, [], length, flat_map}
 use Rattle.std.specs.List.{sum_by}
 use Rattle.tables.specs.Plan.{PlanParts}
 use Rattle.cutplan.specs.declared.region.Region.{Region}
@@ -7,7 +7,7 @@ use Rattle.cutplan.specs.Numbered.{overlaps_of}
 use Rattle.cutplan.specs.Violations.{gap_is_error}
 use Rattle.adjudicate.specs.declared.check.report.Findings.{Findings}
 use Rattle.adjudicate.specs.declared.check.report.Findings.TheVariants.{All, Errors}
-use Rattle.adjudicate.specs.CheckText.{IsCheckText, counts_line, gap_line, overlap_line, table_numbers, reported_gaps, wide_lines}
+use Rattle.adjudicate.specs.CheckText.{IsCheckText, counts_line, gap_line, is_wide, overlap_line, table_numbers, reported_gaps, wide_line}
 use Rattle.adjudicate.specs.ErrorsText.{IsErrorsCheckText, error_overlaps}
 
 -- whether the gaps of a table are reported
@@ -24,9 +24,17 @@ abbrev pub overlaps_in : Findings → PlanParts → ℕ → List (ℕ × ℕ)
 overlaps_in All plan table = overlaps_of plan table
 overlaps_in Errors plan table = error_overlaps plan table
 
+-- the line of a wide table is reported: its gaps are not listed, and would be reported
+abbrev pub reports_wide : Findings → PlanParts → ℕ → Bool
+reports_wide findings plan table = reports_gaps findings plan table && is_wide plan table
+
+-- the line of a wide table, or no line for another table
+abbrev pub wide_lines_in : Findings → PlanParts → ℕ → List ℕ
+wide_lines_in findings plan table = if reports_wide findings plan table then wide_line table else []
+
 -- the lines of a table: its overlaps in order, and then its gaps in order or the line of a wide table
 abbrev pub table_lines : Findings → PlanParts → ℕ → List ℕ
-table_lines findings plan table = flat_map (overlap_line table) (overlaps_in findings plan table) ++ (wide_lines plan table ++ flat_map (gap_line table) (gaps_in findings plan table))
+table_lines findings plan table = flat_map (overlap_line table) (overlaps_in findings plan table) ++ (wide_lines_in findings plan table ++ flat_map (gap_line table) (gaps_in findings plan table))
 
 -- the number of reported gaps of these tables
 abbrev pub gap_count_in : Findings → PlanParts → List ℕ → ℕ

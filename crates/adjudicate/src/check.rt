@@ -48,8 +48,8 @@ pub fn do_check<W: Write>(alloc: Global, plan: &[u8], out: &mut Out<W>) -> Resul
 
 /// Checks the plan's tables as `do_check` does, but reports only the gaps and overlaps that are
 /// errors: a gap of a table whose value is the fault `norule` in it, and an overlap of rules that
-/// clash if both match. Wide tables are reported as well. The counts are those of the reported gaps
-/// and overlaps.
+/// clash if both match. A wide table is reported if a gap of it would be. The counts are those of
+/// the reported gaps and overlaps.
 pub fn do_errors_check<W: Write>(alloc: Global, plan: &[u8], out: &mut Out<W>) -> Result<(), Stop>
     ensures written { OnOk result (WritesText (IsErrorsCheckText plan.now)
         (W.contents (writer_of out.old)) (W.contents (writer_of out.new))) }

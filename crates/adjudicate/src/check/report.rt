@@ -4,8 +4,8 @@
 ghost use Rattle.std.specs.Prelude.{◌≡◌, ◌+◌, ◌++◌, ◌∷◌, IfOk, OnOk, filter, get_or, length, map, []};
 ghost use Rattle.cutplan.specs.Numbered.{IsTableNumber, overlaps_of};
 ghost use Rattle.cutplan.specs.Violations.{overlap_is_error};
-ghost use Rattle.adjudicate.specs.CheckText.{region_text};
-ghost use Rattle.adjudicate.specs.Findings.{overlaps_in, reports_gaps};
+ghost use Rattle.adjudicate.specs.CheckText.{is_wide as is_wide_table, region_text};
+ghost use Rattle.adjudicate.specs.Findings.{overlaps_in, reports_gaps, reports_wide};
 ghost use Rattle.adjudicate.specs.CheckReport.{IsReported, IsReportedOf, column_text, column_texts, column_texts_if, marked_region, reported_places};
 
 use cutplan::{Region, cell_count, check_table, gap_is_error, overlap_is_error};
@@ -73,7 +73,7 @@ impl ColumnText {
 pub struct TableReport {
     /// The overlaps, as pairs of rule numbers from 1.
     pub overlaps: Vec<(usize, usize)>,
-    /// Whether the table has too many cells for its gaps to be searched.
+    /// Whether the table has too many cells for its gaps to be searched, and a gap would be reported.
     pub is_wide: bool,
     /// The columns, or no columns if no gap is reported.
     pub columns: Sequence<ColumnText>,
@@ -164,7 +164,7 @@ fn table_report(
     let columns = reported_columns(alloc, check.columns.as_slice(), gaps.as_slice())?;
     Ok(TableReport {
         overlaps,
-        is_wide,
+        is_wide: reports_wide(plan, table, findings, is_wide),
         columns,
         gaps,
     })
@@ -226,6 +226,19 @@ fn reported_gaps(
             }
         }
         None => Vec::new(alloc),
+    }
+}
+
+// Decides whether the line of a wide table is reported: if its gaps would be.
+fn reports_wide(plan: &Plan, table: Ordinal, findings: Findings, is_wide: bool) -> bool
+    requires number { IsTableNumber plan.now table }
+    requires wide { is_wide ≡ is_wide_table plan.now table }
+    ensures { result ≡ reports_wide findings plan.now table }
+{
+    if reports_gaps(plan, table, findings) {
+        is_wide
+    } else {
+        false
     }
 }
 
