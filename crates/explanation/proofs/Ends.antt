@@ -40,7 +40,8 @@ use Rattle.explanation.specs.Cases.{IsAccepted, IsCase, IsLate, IsRowAt}
 use Rattle.explanation.specs.Explanation.{IsExplanationOf, IsFactsOf, facts_of_case}
 use Rattle.explanation.specs.Facts.{FactParts, fact, facts_text}
 use Rattle.explanation.specs.Laws.{EndsWithRecord, ExplanationEndsWithItsRecord}
-use Rattle.explanation.specs.Steps.{before_facts, claim_facts, claim_record, outcome_facts, place_facts, record_facts}
+use Rattle.explanation.specs.Refusals.{record_at, refusal_facts}
+use Rattle.explanation.specs.Steps.{before_facts, claim_facts, claim_record, outcome_facts, place_facts, record_facts, refused_record}
 use Rattle.explanation.specs.declared.family.Standing.{Standing}
 use Rattle.explanation.specs.declared.format.Format.{Format}
 use Rattle.explanation.specs.declared.row.Place.{Place}
@@ -265,10 +266,15 @@ module _ (T : Terms) (J : List Event) (F : Finished T J) (all : FinishedTakesAll
 
   ends_so : (row : Row) (facts : List FactParts) → ((number place : ℕ) (claim : Claim) → row ≡ Good number place claim → claim_filed T (record { provider = provider; place = place }) ≡ Some claim)
       → IsFactsOf parts T provider facts row → FactsEnd facts (record_of by provider row)
-  ends_so (Bad number fault) facts there are = record {
-    front = place_facts provider number ++ (fact (codes "this record") (codes "refused in column") (decimal fault.column) ∷ fact (codes "this record") (codes "refused by") (fault_text fault) ∷ []);
-    facts_are = are;
-  }
+  ends_so (Bad number fault) facts there are =
+      let text = get_or parts.files (provider - 1) [] in
+      let refusal = refusal_facts (record_at text 0) (record_at text number) fault in
+      let reason = fact (codes "this record") (codes "refused by") (fault_text fault) ∷ [] in
+      let last = record_facts (refused_record parts.plan.version provider number fault) in
+      record {
+        front = place_facts provider number ++ (refusal ++ reason);
+        facts_are = are ∙ ap (λ (fs : List FactParts). place_facts provider number ++ fs) (sym (append_assoc refusal reason last));
+      }
   ends_so (Good number place claim) facts there are = by_case are.case are.is_case are.facts_are
     where
       by_case : (case : Case) → IsCase parts T (record { provider = provider; place = place }) claim case → facts ≡ facts_of_case parts provider number claim case → FactsEnd facts (record_of by provider (Good number place claim))

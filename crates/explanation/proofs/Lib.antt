@@ -9,6 +9,8 @@ pub mod RecordNumbers
 pub mod Binding
 pub mod Listing
 pub mod Texts
+pub mod FileRecords
+pub mod ShownFields
 pub mod Records
 pub mod Appending
 pub mod Limits
@@ -17,4 +19,5 @@ pub mod TableFacts
 pub mod Claims
 pub mod FamilyFacts
 pub mod FoundClaims
+pub mod FoundRecords
 pub mod Ends

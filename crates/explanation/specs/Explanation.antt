@@ -27,7 +27,7 @@ pub record IsFactsOfClaim (parts : TermsParts) (T : Terms) (provider number plac
 -- these are the facts of a row of the provider's file
 abbrev pub IsFactsOf : TermsParts → Terms → ℕ → List FactParts → Row → Type 0
 IsFactsOf parts T provider facts (Good number place claim) = IsFactsOfClaim parts T provider number place claim facts
-IsFactsOf parts T provider facts (Bad number fault) = facts ≡ refused_facts parts.plan.version provider number fault
+IsFactsOf parts T provider facts (Bad number fault) = facts ≡ refused_facts parts.plan.version provider number (get_or parts.files (provider - 1) []) fault
 
 -- the place of a record, from 1: there is a file with this number
 pub record IsPlace (parts : TermsParts) (place : Place) : Type 0 where

@@ -1,8 +1,10 @@
 -- The facts of an explanation, and their texts.
-use Rattle.std.specs.Prelude.{ℕ, ◌==◌, ◌||◌, cond, nat_lt, List, [], ◌∷◌, ◌++◌, codes, flat_map, map, Option, Some, None}
+use Rattle.std.specs.Prelude.{ℕ, List, [], ◌∷◌, ◌++◌, codes, flat_map, Option, Some, None}
+use Rattle.std.specs.Str.Lossy.{utf8_lossy}
 use Rattle.feel_tests.specs.Value.{literal_text}
 use Rattle.feel_tests.specs.declared.value.Value.{Value}
 use Rattle.evaluation.specs.ValueText.{line_end}
+use Rattle.faults.specs.Printable.{shown_text}
 use Rattle.remit.specs.Report.{record_text}
 use Rattle.explanation.specs.declared.format.Format.{Format}
 use Rattle.explanation.specs.declared.format.Format.TheVariants.{Text, Csv}
@@ -21,13 +23,13 @@ abbrev pub value_facts : List ℕ → List ℕ → Option Value → List FactPar
 value_facts step name None = []
 value_facts step name (Some value) = fact step name (literal_text value) ∷ []
 
--- a byte of a line; a control character is replaced by `?`, so that a fact has one line
-abbrev pub shown : ℕ → ℕ
-shown byte = cond (nat_lt byte 32 || (byte == 127)) 63 byte
+-- a text as a line shows it: U+FFFD replaces what is not UTF-8, and each control character and each hidden one, so that a fact has one line
+abbrev pub shown : List ℕ → List ℕ
+shown text = shown_text (utf8_lossy text)
 
 -- the line of a fact
 abbrev pub fact_line : FactParts → List ℕ
-fact_line f = f.step ++ (codes ", " ++ (map shown f.name ++ (codes ": " ++ (map shown f.value ++ line_end ∷ []))))
+fact_line f = f.step ++ (codes ", " ++ (shown f.name ++ (codes ": " ++ (shown f.value ++ line_end ∷ []))))
 
 -- the CSV record of a fact
 abbrev pub fact_record : FactParts → List ℕ

@@ -1,12 +1,13 @@
--- The law of explanations.
-use Rattle.std.specs.Prelude.{◌≡◌, ◌≢◌, ℕ, List, ◌∷◌, ◌++◌, decimal}
+-- The laws of explanations.
+use Rattle.std.specs.Prelude.{◌≡◌, ◌≢◌, ℕ, List, ◌∷◌, ◌++◌, decimal, Some}
 use Rattle.journal.specs.declared.order.Order.{Order}
 use Rattle.journal.specs.declared.order.Order.TheVariants.{Any}
 use Rattle.remit.specs.Report.{text_of}
 use Rattle.orders.specs.RunTexts.{IsOrderedRemittance, RunTexts}
-use Rattle.explanation.specs.Explained.{IsExplanation}
+use Rattle.explanation.specs.Explained.{HasNoRecord, IsExplanation, IsFoundIn}
 use Rattle.explanation.specs.Facts.{FactParts, facts_text}
 use Rattle.explanation.specs.Steps.{record_facts}
+use Rattle.explanation.specs.declared.finding.FoundClaim.{FoundClaim}
 use Rattle.explanation.specs.declared.format.Format.{Format}
 use Rattle.explanation.specs.declared.row.Place.{Place}
 
@@ -29,3 +30,8 @@ pub record EndsWithRecord (bytes : List ℕ) (place : Place) (format : Format) (
 abbrev pub ExplanationEndsWithItsRecord : Type 0
 ExplanationEndsWithItsRecord = (order : Order) (texts : RunTexts) (place : Place) (format : Format) (text bytes : List ℕ) → order ≢ Any
     → IsExplanation order texts place format text → IsOrderedRemittance order texts bytes → EndsWithRecord bytes place format text
+
+-- the record of a claim that is found is not missing in an explanation of texts with the same plan and files
+abbrev pub FoundClaimHasRecord : Type 0
+FoundClaimHasRecord = (order : Order) (searched texts : RunTexts) (id : List ℕ) (found : FoundClaim) → searched.plan ≡ texts.plan → searched.files ≡ texts.files
+    → IsFoundIn searched id (Some found) → ¬ HasNoRecord order texts found.place

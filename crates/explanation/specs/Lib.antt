@@ -1,5 +1,6 @@
 pub mod Facts
 pub mod Tables
+pub mod Refusals
 pub mod Steps
 pub mod Cases
 pub mod Families

@@ -28,6 +28,7 @@ use Rattle.remit.specs.Report.{record_text}
 use Rattle.explanation.specs.declared.family.Standing.{Standing}
 use Rattle.explanation.specs.declared.row.Place.{Place}
 use Rattle.explanation.specs.Facts.{FactParts, fact, value_facts}
+use Rattle.explanation.specs.Refusals.{record_at, refusal_facts}
 use Rattle.explanation.specs.Tables.{ok_part, tables_facts}
 
 -- the file and the number of a record
@@ -189,10 +190,9 @@ late_facts version provider number claim cutoff =
     ++ (claim_facts claim
     ++ (fact (codes "this claim") (codes "late after the cutoff") (decimal cutoff) ∷ record_facts (claim_record version provider number claim None)))
 
--- a refused record
-abbrev pub refused_facts : ℕ → ℕ → ℕ → RowFault → List FactParts
-refused_facts version provider number fault =
+-- a refused record of the file with this text
+abbrev pub refused_facts : ℕ → ℕ → ℕ → List ℕ → RowFault → List FactParts
+refused_facts version provider number text fault =
     place_facts provider number
-    ++ (fact (codes "this record") (codes "refused in column") (decimal fault.column)
-    ∷ fact (codes "this record") (codes "refused by") (fault_text fault)
-    ∷ record_facts (refused_record version provider number fault))
+    ++ (refusal_facts (record_at text 0) (record_at text number) fault
+    ++ (fact (codes "this record") (codes "refused by") (fault_text fault) ∷ record_facts (refused_record version provider number fault)))

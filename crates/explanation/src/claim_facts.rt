@@ -9,23 +9,23 @@ ghost use Rattle.claim_gate.specs.Terms.{ForTerms};
 ghost use Rattle.explanation.specs.Cases.{filed_of};
 ghost use Rattle.explanation.specs.Explanation.{IsFactsOf, IsFactsOfClaim, IsPlace, IsRowOf, facts_of_case};
 ghost use Rattle.explanation.specs.Walking.{ClaimsFit};
-ghost use Rattle.explanation.specs.Steps.{computation_facts, decided_facts, late_facts, outcome_facts, record_facts, refused_facts, settled_facts};
+ghost use Rattle.explanation.specs.Steps.{computation_facts, decided_facts, late_facts, outcome_facts, record_facts, settled_facts};
 
 use crate::fact::Facts;
 use crate::family::{Standing, outcome_of};
 use crate::given::inputs_of;
-use crate::record::{fill_claim, fill_refused, record_line};
+use crate::record::{fill_claim, record_line};
+use crate::refusal::facts_of_refused;
 use crate::row::Place;
 use crate::search::{Case, Wanted, find_case};
 use crate::settlement_steps::{
     add_accumulators, add_amounts, add_before, add_claim, add_place, add_roles, verdict_text,
 };
 use crate::table::add_tables;
-use crate::words::fault_text;
 use claim_gate::{Terms, claim_lists_exist};
 use csv::ByteRecord;
 use cutplan::{CutPlan, compile};
-use intake_csv::{Row, RowFault, claims_have_the_plan_s_fields};
+use intake_csv::{Row, claims_have_the_plan_s_fields};
 use settlement::{Acc, Adjudicator, Claim, Outcome, after};
 use std::alloc::{AllocError, Global};
 use tables::{Env, Inputs, Plan};
@@ -62,33 +62,12 @@ pub(crate) fn facts_of_row(
     }
 }
 
-fn facts_of_refused(
+/// Adds the record of the remittance, without its line end.
+pub(crate) fn add_record(
     alloc: Global,
-    terms: &Terms,
-    provider: usize,
-    number: usize,
-    fault: RowFault,
-) -> Result<Facts, AllocError>
-    ensures { IfOk result (λ facts.
-        facts ≡ refused_facts terms.now.plan.version provider number fault) }
-{
-    let version = terms.plan().version();
-    let mut facts = Facts::new(alloc);
-    add_place(&mut facts, provider, number)?;
-    facts.add_number(b"this record", b"refused in column", fault.column as u128)?;
-    facts.add(
-        b"this record",
-        b"refused by",
-        fault_text(alloc, fault)?.as_bytes(),
-    )?;
-    let mut line = ByteRecord::new(alloc);
-    fill_refused(alloc, &mut line, version, provider, number, fault)?;
-    add_record(alloc, &mut facts, &line)?;
-    Ok(facts)
-}
-
-// Adds the record of the remittance, without its line end.
-fn add_record(alloc: Global, facts: &mut Facts, line: &ByteRecord) -> Result<(), AllocError>
+    facts: &mut Facts,
+    line: &ByteRecord,
+) -> Result<(), AllocError>
     ensures { OnOk result (facts.new ≡ facts.old ++ record_facts (fields_of line.now)) }
 {
     let text = record_line(alloc, line)?;

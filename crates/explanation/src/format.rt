@@ -1,16 +1,18 @@
 //! The texts of facts: lines for a reader, or records for a program.
-ghost use Rattle.std.specs.Prelude.{◌≡◌, ◌++◌, ◌∷◌, [], flat_map, IfOk, OnOk, map};
+ghost use Rattle.std.specs.Prelude.{◌≡◌, ◌++◌, flat_map, IfOk, OnOk};
 ghost use Rattle.explanation.specs.Facts.{fact_line, fact_record, fact_text, facts_text, head_text, shown};
 
 use crate::fact::Fact;
 use crate::record::record_line;
 use csv::ByteRecord;
+use faults::push_printable;
 use std::alloc::{AllocError, Global};
 
 /// The form of an explanation's text.
 #[derive(Clone, Copy)]
 pub enum Format {
-    /// A line for each fact, with `?` in place of each control character.
+    /// A line for each fact, with U+FFFD in place of each control character and each hidden one, and of
+    /// bytes that are not UTF-8.
     Text,
     /// A CSV record (RFC 4180) for each fact, after a header: its step, its name and its value.
     Csv,
@@ -64,36 +66,31 @@ fn append_fact(
     ensures { OnOk result (text.new.items ≡ text.old.items ++ fact_text format fact.now) }
 {
     match format {
-        Format::Text => append_line(text, fact),
+        Format::Text => append_line(alloc, text, fact),
         Format::Csv => append_record(alloc, text, fact),
     }
 }
 
-fn append_line(text: &mut Vec<u8>, fact: &Fact) -> Result<(), AllocError>
+fn append_line(alloc: Global, text: &mut Vec<u8>, fact: &Fact) -> Result<(), AllocError>
     ensures { OnOk result (text.new.items ≡ text.old.items ++ fact_line fact.now) }
 {
     text.extend_from_slice(fact.step())?;
     text.extend_from_slice(b", ")?;
-    append_shown(text, fact.name())?;
+    append_shown(alloc, text, fact.name())?;
     text.extend_from_slice(b": ")?;
-    append_shown(text, fact.value())?;
+    append_shown(alloc, text, fact.value())?;
     text.push(b'\n')?;
     Ok(())
 }
 
-fn append_shown(text: &mut Vec<u8>, bytes: &[u8]) -> Result<(), AllocError>
-    ensures { OnOk result (text.new.items ≡ text.old.items ++ map shown bytes.now) }
+// Appends a text as a terminal may show it.
+fn append_shown(alloc: Global, text: &mut Vec<u8>, bytes: &[u8]) -> Result<(), AllocError>
+    ensures { OnOk result (text.new.items ≡ text.old.items ++ shown bytes.now) }
 {
-    for byte in bytes {
-        text.push(visible_byte(*byte))?;
-    }
-    Ok(())
-}
-
-fn visible_byte(byte: u8) -> u8
-    ensures { result ≡ shown byte }
-{
-    if byte < 32 || byte == 127 { b'?' } else { byte }
+    let words = String::from_utf8_lossy(alloc, bytes)?;
+    let mut shown = String::new(alloc);
+    push_printable(&mut shown, words.as_str())?;
+    text.extend_from_slice(shown.as_bytes())
 }
 
 fn append_record(alloc: Global, text: &mut Vec<u8>, fact: &Fact) -> Result<(), AllocError>

@@ -6,12 +6,13 @@
 //! acceptance and settles those of the family, with the accumulators that `family` keeps. `numbers` has
 //! the numbers of their records. `claim_facts` lists the facts: those of the tables are in `table` and
 //! `matching`, those of the amounts in `settlement_steps`, and `record` has the record of the remittance.
-//! `format` writes the facts. `laws` relates an explanation to the remittance.
+//! `refusal` lists those of a refused record, whose fields `file_record` reads and `shown_field` shows in
+//! part. `format` writes the facts. `laws` relates an explanation to the remittance.
 //!
 //! Begin with `explaining.rt`: the contract of `do_explain` is the promise of an explanation.
-//! Then read `specs/Explained.antt`, `specs/Explanation.antt`, `specs/Steps.antt` and
-//! `specs/Tables.antt`, which define the facts, and `specs/Cases.antt`, which defines what comes before a
-//! claim. `specs/FamilyExplanation.antt` defines the explanation of a family, and `specs/Walking.antt` what
+//! Then read `specs/Explained.antt`, `specs/Explanation.antt`, `specs/Steps.antt`, `specs/Tables.antt`
+//! and `specs/Refusals.antt`, which define the facts, and `specs/Cases.antt`, which defines what comes
+//! before a claim. `specs/FamilyExplanation.antt` defines the explanation of a family, and `specs/Walking.antt` what
 //! is known on the way.
 #![tactic(auto)]
 
@@ -22,6 +23,7 @@ mod explaining_family;
 mod fact;
 mod family;
 mod family_facts;
+mod file_record;
 mod finding;
 mod format;
 mod given;
@@ -30,9 +32,11 @@ mod matching;
 mod numbers;
 mod record;
 mod record_text;
+mod refusal;
 mod row;
 mod search;
 mod settlement_steps;
+mod shown_field;
 mod table;
 mod words;
 
@@ -41,5 +45,5 @@ pub use explaining::{ExplainInput, Explained, do_explain};
 pub use explaining_family::{ExplainFamilyInput, do_explain_family};
 pub use finding::{FoundClaim, find_claim};
 pub use format::Format;
-pub use laws::explanation_ends_with_its_record;
+pub use laws::{explanation_ends_with_its_record, found_claim_has_a_record};
 pub use row::Place;

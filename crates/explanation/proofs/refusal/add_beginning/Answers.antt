@@ -1,0 +1,8 @@
+use Rattle.std.proofs.lemmas.Result.{on_ok_weaker}
+use Rattle.explanation.proofs.Appending.{two}
+use Rattle.explanation.proofs.refusal.add_beginning.Goals as goal
+
+pub returns : goal.returns
+returns c =
+    on_ok_weaker c.add.result
+    (λ last. two c.args.facts.now c.add_number.new.self c.add.new.self _ _ c.in_ok-add_number.ensures (rw (c.as_bytes.ensures.value, c.in_ok-first.ensures) at last)) c.add.ensures
