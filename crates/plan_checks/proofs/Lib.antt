@@ -1,0 +1,15 @@
+pub mod Lists
+pub mod Joining
+pub mod Money
+pub mod Regions
+pub mod Values
+pub mod Listing
+pub mod Evaluating
+pub mod Statuses
+pub mod Reading
+pub mod RowLists
+pub mod HeaderColumns
+pub mod Givens
+pub mod RowValues
+pub mod Rows
+pub mod Refusals

@@ -1,0 +1,14 @@
+-- The exit status of an error is 1 to 3.
+use Rattle.std.proofs.Common.{◌≤◌, arith}
+use Rattle.evaluation.proofs.Statuses as value
+use Rattle.plan_checks.specs.declared.stop.TestStop.{TestStop}
+use Rattle.plan_checks.specs.declared.stop.TestStop.TheVariants as stop
+use Rattle.plan_checks.specs.Stop.{status_of}
+
+pub least_status : (s : TestStop) → 1 ≤ status_of s
+least_status (stop.Value s) = value.least_status s
+least_status s = grind arith
+
+pub greatest_status : (s : TestStop) → status_of s ≤ 3
+greatest_status (stop.Value s) = value.greatest_status s
+greatest_status s = grind arith

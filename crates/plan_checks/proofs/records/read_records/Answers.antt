@@ -1,0 +1,39 @@
+use Rattle.std.proofs.Common.{◌∙◌, inr, refl}
+use Rattle.csv.specs.Reading.{strip_bom}
+use Rattle.intake_csv.proofs.AllRecords.{are-records-of}
+use Rattle.plan_checks.proofs.Reading.{one_more_record, all_records}
+use Rattle.plan_checks.proofs.records.read_records.Goals as goal
+
+pub loop-record-init : goal.loop-record-init
+loop-record-init c =
+    let fr = c.from_reader-reader.ensures in
+    let f = c.flexible.ensures in
+    let e = c.has_headers.ensures in
+    rw c.new-records.ensures.items (
+      record {
+        untrimmed = rw (f, e) at fr.trim ∙ c.new.ensures.trim;
+        ready = inr (inr (rw (f, e) at fr.has_headers, fr.headers));
+        config = rw (f, e) at fr.config ∙ c.new.ensures.config;
+        bytes = strip_bom c.args.text.now;
+        source = fr.source;
+        are = rw fr.state (are-records-of c.args.text.now);
+      },
+      refl,
+    )
+
+pub loop-record-preserved : goal.loop-record-preserved
+loop-record-preserved c =
+    let reads = rw c.if-branch.true at c.in_ok-read_record.ensures in
+    let step = one_more_record _ _ c.loop-record.records.items _ c.read_record.new.row c.in_ok-push.ensures.items c.loop-record.invariant.1 (reads _ c.loop-record.invariant.0) in
+    (step.left, step.listed)
+
+pub loop-record-smaller : goal.loop-record-smaller
+loop-record-smaller c =
+    let reads = rw c.if-branch.true at c.in_ok-read_record.ensures in
+    let step = one_more_record _ _ c.loop-record.records.items _ c.read_record.new.row c.in_ok-push.ensures.items c.loop-record.invariant.1 (reads _ c.loop-record.invariant.0) in
+    step.shorter
+
+pub returns : goal.returns
+returns c =
+    let reads = rw c.if-branch.false at c.in_ok-read_record.ensures in
+    all_records _ _ c.loop-record.invariant.1 (reads _ c.loop-record.invariant.0)

@@ -1,0 +1,13 @@
+pub mod Amounts
+pub mod Zones
+pub mod Boxes
+pub mod Determined
+pub mod Terms
+pub mod Pending
+pub mod Reading
+pub mod Columns
+pub mod Given
+pub mod Expected
+pub mod Lines
+pub mod Report
+pub mod Stop

@@ -1,5 +1,0 @@
-pub mod Lists
-pub mod Joining
-pub mod Money
-pub mod Values
-pub mod Evaluating

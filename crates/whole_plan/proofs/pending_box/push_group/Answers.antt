@@ -1,9 +1,0 @@
-use Rattle.std.proofs.Common.{◌++◌, ap, map, ◌∙◌}
-use Rattle.std.proofs.lemmas.List.{take_all}
-use Rattle.whole_plan.specs.Boxes.{with_side}
-use Rattle.whole_plan.proofs.pending_box.push_group.Goals as goal
-
-pub returns : goal.returns
-returns c =
-    let items = c.as_slice-inner-items.result.now in
-    c.loop-inner.invariant ∙ ap (λ bs. c.args.found.now ++ map (with_side c.args.group.now.side) bs) (take_all c.loop-inner.inner-index items c.loop-inner-test.false ∙ c.as_slice-inner-items.ensures)

@@ -1,4 +1,0 @@
-pub mod Amounts
-pub mod Zones
-pub mod Boxes
-pub mod Pending
