@@ -24,6 +24,9 @@ const EITHER: &str = "Separate tests by a comma, which means `or`: {}{},{}{}.";
 
 const RANGE: &str = "Write the range as one interval: [{}..{}].";
 
+const RANGE_OR_LIST: &str =
+    "Write a range as [{}..{}], and two values without brackets, with a comma between them.";
+
 const WITHOUT_HIGH: &str = "Write the range as one interval: [{}..{}[.";
 
 const WITHOUT_LOW: &str = "Write the range as one interval: ]{}..{}].";
@@ -36,6 +39,8 @@ const CLOSE_WITHOUT_LOW: &str =
     "Close the interval, by `]` with its end or by `[` without it: ({}..{}].";
 
 const INTERVAL: &str = "Write an interval in brackets, with two dots between its ends: [1..3].";
+
+const SIGNS: &str = "Write the signs of a comparison in this order and without a space: >= or <=.";
 
 const AT_LEAST: &str = "Write a comparison: >={}.";
 
@@ -51,9 +56,18 @@ const NUMBER_COLUMN: &str = "The column has numbers: write a number without quot
 
 const NEVER_MISSING: &str = "Write a literal, or `-` for any value; a value is never missing.";
 
+const COMPARISONS: &str =
+    "Write a number as digits, a comparison by its sign, as in >=18, and a range as one interval: [18..65].";
+
+const TEST_ALONE: &str = "Write the test without the word after it: {}{}.";
+
+const NUMBER_ALONE: &str = "Write the number without the word after it: {}.";
+
+const NO_WORDS: &str = "Write a value or a comparison without words, such as 5, <5 or <=5.";
+
 const NUMBER: &str = "Write a number as digits, with a dot before its decimals: 1234.5.";
 
-const ALONE: &str = "Write one literal, and remove the text after it.";
+const ALONE: &str = "Write one literal, with nothing before or after it.";
 
 const COMMA_OR_RANGE: &str =
     "Separate tests by a comma, which means `or`. Write a range as one interval: [18..65].";
@@ -73,11 +87,20 @@ const COMMA: &str = "Separate tests by a comma, which means `or`.";
 const STRAIGHT: &str =
     "Write straight double quotes round the text: '\"OFFICE\"' for the word OFFICE.";
 
+const QUOTES: &str = "Write a double quote within a text as \\\", and a comma between two texts.";
+
+const NOT_TEXT: &str = "Write `not` with the text in double quotes: not(\"A\").";
+
 const NO_ORDER: &str = "List the texts; comparisons and intervals of texts are not allowed.";
 
 const TEXT_OF_DIGITS: &str = "Put a text in double quotes, also one of digits: '\"99213\"'.";
 
 const TEXT: &str = "Put a text in double quotes: '\"OFFICE\"' for the word OFFICE.";
+
+const CODE_OR_RANGE: &str =
+    "Put each text in double quotes, and list all texts of a range: '\"99213\",\"99214\"'.";
+
+const EACH_TEXT: &str = "Put each text in double quotes: '\"A\",\"B\"' for the words A and B.";
 
 const FLAG: &str = "Write a flag as true or false, in lower case and without quotes.";
 
@@ -86,10 +109,14 @@ const CLOCK: &str =
 
 const YEAR: &str = "Write the range as one interval: [date(\"{}-01-01\")..date(\"{}-12-31\")].";
 
+const QUOTED_DAY: &str = "Put the day in double quotes: date(\"{}\").";
+
 const DAY: &str = "Write a day with the word date: date(\"2024-02-29\").";
 
 // Cells and literals of any kind, before those of the kind.
-static FIRST: [Row; 26] = [
+static FIRST: [Row; 28] = [
+    Row(Any, "*FU*”*", STRAIGHT),
+    Row(Any, "*FU*“*", STRAIGHT),
     Row(Any, "*FU*", "Add the closing double quote of the text."),
     Row(Rest, "not*", NOT),
     Row(Whole, "not F*", NOT),
@@ -123,7 +150,7 @@ static FIRST: [Row; 26] = [
 ];
 
 // Cells of kinds with an order: numbers and days.
-static RANGES: [Row; 84] = [
+static RANGES: [Row; 105] = [
     Row(Cell, "O N or O N", EITHER),
     Row(Cell, "O N | O N", EITHER),
     Row(Cell, "O N || O N", EITHER),
@@ -132,6 +159,9 @@ static RANGES: [Row; 84] = [
     Row(Range, ">= N&< N", WITHOUT_HIGH),
     Row(Range, "> N&<= N", WITHOUT_LOW),
     Row(Range, "> N&< N", WITHOUT_ENDS),
+    Row(Range, ">= N&≤ N", RANGE),
+    Row(Range, "> N&≤ N", WITHOUT_LOW),
+    Row(Range, "≥ N&<= N", RANGE),
     Row(Range, "≥ N&≤ N", RANGE),
     Row(Range, "≥ N&< N", WITHOUT_HIGH),
     Row(Range, "N <= W <= N", RANGE),
@@ -152,8 +182,8 @@ static RANGES: [Row; 84] = [
     Row(Range, "N .. N]", RANGE),
     Row(Range, "[N - N]", RANGE),
     Row(Range, "[N – N]", RANGE),
-    Row(Range, "[N , N]", RANGE),
-    Row(Range, "[N ; N]", RANGE),
+    Row(Range, "[N , N]", RANGE_OR_LIST),
+    Row(Range, "[N ; N]", RANGE_OR_LIST),
     Row(Range, "[N : N]", RANGE),
     Row(Range, "[N to N]", RANGE),
     Row(Range, "[N .. N", CLOSE),
@@ -200,6 +230,8 @@ static RANGES: [Row; 84] = [
     Row(Cell, "N and more", AT_LEAST),
     Row(Cell, "N or more", AT_LEAST),
     Row(Cell, "N and up", AT_LEAST),
+    Row(Cell, "N up", AT_LEAST),
+    Row(Cell, "N onwards", AT_LEAST),
     Row(Cell, "N and under", AT_MOST),
     Row(Cell, "N or under", AT_MOST),
     Row(Cell, "N and younger", AT_MOST),
@@ -207,15 +239,27 @@ static RANGES: [Row; 84] = [
     Row(Cell, "N and below", AT_MOST),
     Row(Cell, "N or below", AT_MOST),
     Row(Cell, "N or less", AT_MOST),
-    Row(
-        Cell,
-        "O N W",
-        "Write the test without the word after it: {}{}.",
-    ),
+    Row(Any, "*F=<*", SIGNS),
+    Row(Any, "*F=>*", SIGNS),
+    Row(Cell, "*> F=*", SIGNS),
+    Row(Cell, "*< F=*", SIGNS),
+    Row(Cell, "O N ≤*", COMMA_OR_RANGE),
+    Row(Cell, "O N ≥*", COMMA_OR_RANGE),
+    Row(Cell, "N ≤*", COMMA_OR_RANGE),
+    Row(Cell, "N ≥*", COMMA_OR_RANGE),
+    Row(Cell, "O N years", TEST_ALONE),
+    Row(Cell, "O N yrs", TEST_ALONE),
+    Row(Cell, "O N months", TEST_ALONE),
+    Row(Cell, "O N days", TEST_ALONE),
+    Row(Cell, "O N units", TEST_ALONE),
+    Row(Cell, "O N mg", TEST_ALONE),
+    Row(Cell, "O N usd", TEST_ALONE),
+    Row(Cell, "O N eur", TEST_ALONE),
+    Row(Cell, "O N W", NO_WORDS),
 ];
 
 // Cells and literals of numbers.
-static NUMBERS: [Row; 29] = [
+static NUMBERS: [Row; 39] = [
     Row(
         Any,
         "*F=*",
@@ -237,6 +281,7 @@ static NUMBERS: [Row; 29] = [
         "Write a number without commas. Only the cell of an input can have several tests.",
     ),
     Row(Literal, "N / N", "Write a decimal number: 0.3333 for 1/3."),
+    Row(Literal, "N T", "Write one number without a space: {}{}."),
     Row(
         Cell,
         "N T",
@@ -248,15 +293,20 @@ static NUMBERS: [Row; 29] = [
     Row(Any, "N$*", NUMBER),
     Row(Any, "N+*", NUMBER),
     Row(Literal, "N F*", ALONE),
-    Row(
-        Cell,
-        "N W",
-        "Write the number without the word after it: {}.",
-    ),
+    Row(Cell, "N years", NUMBER_ALONE),
+    Row(Cell, "N yrs", NUMBER_ALONE),
+    Row(Cell, "N months", NUMBER_ALONE),
+    Row(Cell, "N days", NUMBER_ALONE),
+    Row(Cell, "N units", NUMBER_ALONE),
+    Row(Cell, "N mg", NUMBER_ALONE),
+    Row(Cell, "N usd", NUMBER_ALONE),
+    Row(Cell, "N eur", NUMBER_ALONE),
+    Row(Cell, "N W", NO_WORDS),
     Row(Cell, "N F*", COMMA_OR_RANGE),
     Row(Cell, "O N F*", COMMA_OR_RANGE),
     Row(Cell, "-*", DASH),
     Row(Rest, "*", COMMA_OR_RANGE),
+    Row(Cell, "FW*9*", COMPARISONS),
     Row(Any, "*FW*", NUMBER),
     Row(Any, "*F$*", NUMBER),
     Row(Any, "*F+*", NUMBER),
@@ -264,7 +314,7 @@ static NUMBERS: [Row; 29] = [
 ];
 
 // Cells and literals of texts.
-static TEXTS: [Row; 35] = [
+static TEXTS: [Row; 57] = [
     Row(
         Any,
         "*F=*",
@@ -283,11 +333,16 @@ static TEXTS: [Row; 35] = [
     Row(Cell, "(N ,*", TEXTS_ALONE),
     Row(Cell, "[N]", TEXTS_ALONE),
     Row(Cell, "(N)", TEXTS_ALONE),
+    Row(Cell, "{*", TEXTS_ALONE),
     Row(Cell, "in (*", TEXTS_ALONE),
     Row(Cell, "in [*", TEXTS_ALONE),
     Row(Cell, "in N*", TEXTS_ALONE),
     Row(Cell, "like*", WHOLE_TEXTS),
     Row(Cell, "contains*", WHOLE_TEXTS),
+    Row(Cell, "X*", WHOLE_TEXTS),
+    Row(Cell, "%*", WHOLE_TEXTS),
+    Row(Cell, "~*", WHOLE_TEXTS),
+    Row(Cell, "WX*", WHOLE_TEXTS),
     Row(Cell, "starts with*", WHOLE_TEXTS),
     Row(Cell, "begins with*", WHOLE_TEXTS),
     Row(
@@ -295,9 +350,20 @@ static TEXTS: [Row; 35] = [
         "\"\"W*",
         "Write one double quote on each side of the text.",
     ),
+    Row(Any, "F-9*", TEXT_OF_DIGITS),
     Row(Cell, "-*", DASH),
+    Row(Any, "NW*", QUOTES),
+    Row(Any, "N\"*", QUOTES),
+    Row(Cell, "N ..*", NO_ORDER),
+    Row(Cell, "N -*", NO_ORDER),
+    Row(Cell, "N to *", NO_ORDER),
     Row(Cell, "N F*", COMMA),
     Row(Literal, "N F*", ALONE),
+    Row(Cell, "!= W*", NOT_TEXT),
+    Row(Cell, "<> W*", NOT_TEXT),
+    Row(Cell, "! W*", NOT_TEXT),
+    Row(Any, "*F`*", STRAIGHT),
+    Row(Any, "*F«*", STRAIGHT),
     Row(Any, "*F“*", STRAIGHT),
     Row(Any, "*F”*", STRAIGHT),
     Row(Any, "*F„*", STRAIGHT),
@@ -306,11 +372,17 @@ static TEXTS: [Row; 35] = [
     Row(Any, "*F[*", NO_ORDER),
     Row(Any, "*F(*", NO_ORDER),
     Row(Any, "*F]*", NO_ORDER),
+    Row(Cell, "F9*-9*", CODE_OR_RANGE),
+    Row(Cell, "F9*,*", EACH_TEXT),
+    Row(Cell, "F9*or *", EACH_TEXT),
     Row(Any, "*F9*", TEXT_OF_DIGITS),
     Row(Any, "*F.9*", TEXT_OF_DIGITS),
-    Row(Any, "*Ftrue*", TEXT_OF_DIGITS),
-    Row(Any, "*Ffalse*", TEXT_OF_DIGITS),
-    Row(Any, "*Fdate*", TEXT_OF_DIGITS),
+    Row(Cell, "FW..*", NO_ORDER),
+    Row(Cell, "FW*,*", EACH_TEXT),
+    Row(Cell, "FW or *", EACH_TEXT),
+    Row(Cell, "FW /*", EACH_TEXT),
+    Row(Cell, "FW ;*", EACH_TEXT),
+    Row(Cell, "FW |*", EACH_TEXT),
     Row(Any, "*FW*", TEXT),
 ];
 
@@ -331,7 +403,7 @@ static FLAGS: [Row; 8] = [
 ];
 
 // Cells and literals of days.
-static DAYS: [Row; 11] = [
+static DAYS: [Row; 14] = [
     Row(
         Any,
         "*F=*",
@@ -339,13 +411,20 @@ static DAYS: [Row; 11] = [
     ),
     Row(Cell, "null", NEVER_MISSING),
     Row(Cell, "empty", NEVER_MISSING),
-    Row(Any, "today*", CLOCK),
-    Row(Any, "now*", CLOCK),
+    Row(Any, "*Ftoday*", CLOCK),
+    Row(Any, "*Fnow*", CLOCK),
     Row(Cell, "Y", YEAR),
     Row(Cell, "in Y", YEAR),
     Row(Cell, "N F*", COMMA_OR_RANGE),
     Row(Cell, "O N F*", COMMA_OR_RANGE),
     Row(Literal, "N F*", ALONE),
+    Row(Any, "*date ( I )*", QUOTED_DAY),
+    Row(Any, "*date ( ' I ' )*", QUOTED_DAY),
+    Row(
+        Any,
+        "*Fdate (*",
+        "Write the word date in lower case: date(\"2024-02-29\").",
+    ),
     Row(Any, "*", DAY),
 ];
 

@@ -200,13 +200,21 @@ impl<'t> Subject<'t> {
         Some(end)
     }
 
+    // Literals have words in lower case alone.
+    fn word_end(self, word: &[u8], at: usize) -> Option<usize> {
+        if self.after(at).starts_with(word) {
+            return Some(at.saturating_add(word.len()));
+        }
+        None
+    }
+
     fn literal_end(self, at: usize) -> Option<usize> {
         match self.kind {
             Kind::Number => self.number_end(at),
             Kind::Text => self.text_end(at),
-            Kind::Flag => match self.pattern_end(b"true", at) {
+            Kind::Flag => match self.word_end(b"true", at) {
                 Some(end) => Some(end),
-                None => self.pattern_end(b"false", at),
+                None => self.word_end(b"false", at),
             },
             Kind::Day => self.day_end(at),
         }
@@ -238,7 +246,7 @@ impl<'t> Subject<'t> {
     }
 
     fn day_end(self, at: usize) -> Option<usize> {
-        let word = self.pattern_end(b"date", at)?;
+        let word = self.word_end(b"date", at)?;
         let open = self.byte_end(b'(', self.run_end(b' ', word))?;
         let inside = self.text_end(self.run_end(b' ', open))?;
         self.byte_end(b')', self.run_end(b' ', inside))

@@ -21,6 +21,9 @@ use toml::Value;
 /// The most bytes of a name.
 const NAME_LIMIT_BYTES: usize = 64;
 
+/// The most values of a priority list.
+const PRIORITY_LIMIT: usize = 64;
+
 /// The words of cells, which are no names.
 const WORDS_OF_CELLS: [&str; 4] = ["true", "false", "not", "date"];
 
@@ -76,8 +79,9 @@ pub fn advice_at<'d>(
         PlanCause::Duplicate => used_name(document, entry, fault),
         PlanCause::Priority => unlisted_literal(entry),
         PlanCause::Cell(cell) => advice_of_cell(document, entry, fault, cell),
-        PlanCause::Limit => exceeded_limit(entry, fault),
-        PlanCause::Toml | PlanCause::Money | PlanCause::OutOfMemory => None,
+        PlanCause::Limit => exceeded_limit(document, entry, fault),
+        PlanCause::Money => wrong_amount(entry, fault),
+        PlanCause::Toml | PlanCause::OutOfMemory => None,
     };
     known.unwrap_or(Advice::of(plan_explanation(fault)))
 }
@@ -219,14 +223,41 @@ fn wrong_value<'d>(
         let (word, name) = (Part::Word(key), Part::Word(wanted.name()));
         return Some(Advice::new(
             "The value of `{}` must be {}.",
-            wanted.fix(is_list),
+            fix_of_value(key, is_list),
             word,
             name,
         ));
     }
+    if !value.is_table() {
+        return Some(Advice::of(Explanation::new(
+            "The value must be a table.",
+            fix_of_table(shape)?,
+        )));
+    }
     match shape {
         Shape::Field | Shape::Input | Shape::Output => wrong_word(value),
         Shape::Rule => wrong_count(document, value, fault.table),
+        _ => None,
+    }
+}
+
+// What to write in place of the value of a key that has another type.
+fn fix_of_value(key: &str, is_list: bool) -> &'static str {
+    match key {
+        "tables" => "Write [[tables]], with two brackets on each side.",
+        "fields" => "Write an array of fields: fields = [{name = \"age\", kind = \"number\"}].",
+        _ => Type::at(key).fix(is_list),
+    }
+}
+
+// What to write in place of a part of the plan that must be a table.
+fn fix_of_table(shape: Shape) -> Option<&'static str> {
+    match shape {
+        Shape::Field => Some("Write the field as {name = \"age\", kind = \"number\"}."),
+        Shape::Table => Some("Begin each table with a line [[tables]]."),
+        Shape::Input => Some("Write the input as {name = \"age\"}."),
+        Shape::Output => Some("Write the output as {name = \"fee\", kind = \"number\"}."),
+        Shape::Rule => Some("Write the rule as {when = ['>=18'], then = ['50']}."),
         _ => None,
     }
 }
@@ -333,17 +364,47 @@ fn used_name<'d>(
     Some(Advice::new(cause, fix, Part::Word(name), Part::Number(number)))
 }
 
-// A name that is too long, or a field too many.
-fn exceeded_limit<'d>(entry: Option<&'d Value>, fault: &PlanFault) -> Option<Advice<'d>> {
-    let name = text_after(entry, "name")?;
-    let words = if name.len() > NAME_LIMIT_BYTES {
-        Explanation::new("The name is longer than 64 bytes.", "Shorten the name.")
-    } else if level_of(fault) == Level::Field {
-        Explanation::new("The plan has more than 32 fields.", "Remove fields.")
-    } else {
-        return None;
+// A name or a list that is too long, or a field or a column too many.
+fn exceeded_limit<'d>(
+    document: &'d Value,
+    entry: Option<&'d Value>,
+    fault: &PlanFault,
+) -> Option<Advice<'d>> {
+    let has_long_name = match text_after(entry, "name") {
+        Some(name) => name.len() > NAME_LIMIT_BYTES,
+        None => false,
+    };
+    let has_long_list = items_after(entry, "priority").len() > PRIORITY_LIMIT;
+    let words = match level_of(fault) {
+        Level::Field | Level::Column if has_long_name => {
+            Explanation::new("The name is longer than 64 bytes.", "Shorten the name.")
+        }
+        Level::Field => Explanation::new("The plan has more than 32 fields.", "Remove fields."),
+        Level::Column if has_long_list => Explanation::new(
+            "The `priority` list has more than 64 values.",
+            "Shorten the list.",
+        ),
+        Level::Column if Column::of(document, fault.table, fault.column).is_input => {
+            Explanation::new("The table has more than 16 inputs.", "Split the table.")
+        }
+        Level::Column => {
+            Explanation::new("The table has more than 16 outputs.", "Split the table.")
+        }
+        _ => return None,
     };
     Some(Advice::of(words))
+}
+
+// An amount that is negative, or that is not whole cents. A rate has one cause alone.
+fn wrong_amount<'d>(entry: Option<&'d Value>, fault: &PlanFault) -> Option<Advice<'d>> {
+    let general = plan_explanation(fault);
+    let is_negative = text_of(entry)?.trim().starts_with('-');
+    let cause = match RoleKey::with_number(fault.column)? {
+        RoleKey::Rate => general.cause,
+        _ if is_negative => "An amount of money must not be negative.",
+        _ => "An amount of money must not have a fraction of a cent.",
+    };
+    Some(Advice::of(Explanation::new(cause, general.fix)))
 }
 
 fn unlisted_literal<'d>(entry: Option<&'d Value>) -> Option<Advice<'d>> {

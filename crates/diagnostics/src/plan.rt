@@ -40,7 +40,9 @@ fn add_text(
         Err(refusal) if refusal.is_memory() => Err(AllocError),
         Err(refusal) => {
             let at = add_refusal(message, name, text, &refusal)?;
-            message.words(toml_explanation(text, at, plan_explanation(fault)))
+            let words = plan_explanation(fault);
+            let fix = toml_fix(text, at, refusal.message(), words.fix);
+            message.words(Explanation::new(words.cause, fix))
         }
     }
 }
@@ -61,17 +63,17 @@ fn add_refusal(
     Ok(at)
 }
 
-// A single quote within a word ends the string, and a table in single brackets occurs once.
-fn toml_explanation(text: &[u8], at: usize, words: Explanation) -> Explanation {
+// A single quote within a word ends the string, and a table in single brackets occurs once. Only a key that occurs twice has the general fix.
+fn toml_fix(text: &[u8], at: usize, reason: &str, general: &'static str) -> &'static str {
     let before = text.get(at.saturating_sub(2)..at).unwrap_or(&[]);
     let rest = text.get(at..).unwrap_or(&[]);
-    let fix = match (before, rest) {
+    match (before, rest) {
         ([letter, b'\''], [next, ..])
             if letter.is_ascii_alphabetic() && next.is_ascii_alphabetic() => { APOSTROPHE }
         _ if rest.starts_with(b"[tables]") => "Write [[tables]], with two brackets on each side.",
-        _ => words.fix,
-    };
-    Explanation::new(words.cause, fix)
+        _ if reason == "duplicate key" => general,
+        _ => "Correct the text at this line and column.",
+    }
 }
 
 fn add_place(

@@ -1,10 +1,12 @@
 //! Finds entries of a plan's tables that their role cannot take. The plan is valid, but each claim that gets such an entry is pended.
 
-use crate::message::{Message, Part};
+use crate::advice::Advice;
+use crate::message::{Message, Part, shown_front};
 use crate::places::Step;
-use crate::plan_node::{document_of, items_after, tables, text_after, text_at};
+use crate::plan_node::{add_name_in_table, items_after, tables, text_after, text_at};
+use crate::texts::money_explanation;
 use faults::RoleKey;
-use std::alloc::{AllocError, Global};
+use std::alloc::AllocError;
 use toml::Value;
 
 /// The roles that are numbers.
@@ -22,32 +24,21 @@ static NUMBERS: [RoleKey; 7] = [
 #[derive(Clone, Copy)]
 struct RoleOutput<'d> {
     role: RoleKey,
-    name: &'d str,
     table: &'d Value,
     table_number: usize,
+    /// Its place among the outputs, from 0.
     place: usize,
+    /// Its number among the columns, from 1.
+    column: usize,
 }
 
-/// A line for each output of a valid plan that is a role and has an entry which the role cannot take. The entries of a sum or a count are left out, since
-/// they are not the value of their table.
-pub fn explain_role_entries(alloc: Global, plan: &[u8]) -> Result<Message, AllocError> {
-    match document_of(alloc, plan)? {
-        Some(document) => explain_entries(alloc, &document),
-        None => Ok(Message::new(alloc)),
-    }
-}
-
-fn explain_entries(alloc: Global, document: &Value) -> Result<Message, AllocError> {
-    let mut message = Message::new(alloc);
-    let done = add_roles(&mut message, document);
-    message.after(done)
-}
-
-fn add_roles(message: &mut Message, document: &Value) -> Result<(), AllocError> {
+/// Explains, for each output of a valid plan that is a role, the first entry which the role cannot take. The entries of a sum or a count are left out,
+/// since they are not the value of their table.
+pub fn add_role_entries(message: &mut Message, document: &Value) -> Result<(), AllocError> {
     for role in NUMBERS.as_slice() {
         let name = text_at(document, &[Step::Key("roles")], role.key());
         if let Some(output) = output_of(document, *role, name) {
-            add_output(message, &output)?;
+            add_output(message, document, &output)?;
         }
     }
     Ok(())
@@ -61,12 +52,13 @@ fn output_of<'d>(document: &'d Value, role: RoleKey, name: &'d str) -> Option<Ro
             continue;
         }
         if let Some(place) = place_of(items_after(Some(table), "outputs"), name) {
+            let inputs = items_after(Some(table), "inputs").len();
             return Some(RoleOutput {
                 role,
-                name,
                 table,
                 table_number: number + 1,
                 place,
+                column: inputs.saturating_add(place).saturating_add(1),
             });
         }
     }
@@ -82,13 +74,17 @@ fn place_of(outputs: &[Value], name: &str) -> Option<usize> {
     None
 }
 
-// Adds a line about the first entry that the role cannot take.
-fn add_output<'d>(message: &mut Message, output: &RoleOutput<'d>) -> Result<(), AllocError> {
+// Explains the first entry that the role cannot take.
+fn add_output<'d>(
+    message: &mut Message,
+    document: &Value,
+    output: &RoleOutput<'d>,
+) -> Result<(), AllocError> {
     let rules = items_after(Some(output.table), "rules");
     for number in 0..rules.len() {
         let entry = entry_of(&rules[number], output.place);
         if !can_take(output.role, entry) {
-            return add_entry(message, output, number + 1, entry);
+            return add_entry(message, document, output, number + 1, entry);
         }
     }
     Ok(())
@@ -103,26 +99,24 @@ fn entry_of(rule: &Value, place: usize) -> &str {
 
 fn add_entry<'d>(
     message: &mut Message,
+    document: &Value,
     output: &RoleOutput<'d>,
     rule: usize,
     entry: &'d str,
 ) -> Result<(), AllocError> {
-    let need = match output.role {
-        RoleKey::Rate => "a rate from 0 to 1",
-        _ => "an amount of 0 or more in whole cents",
+    let cause = match output.role {
+        RoleKey::Rate => {
+            "{} is not a rate from 0 to 1, so a claim with this entry is pended with term:{}."
+        }
+        _ => {
+            "{} is not an amount of 0 or more in whole cents, so a claim with this entry is pended with term:{}."
+        }
     };
-    let values = [
-        Part::Number(output.table_number),
-        Part::Number(rule),
-        Part::Word(output.name),
-        Part::Word(entry),
-        Part::Word(need),
-        Part::Number(usize::from(output.role.number())),
-    ];
-    message.sentence(
-        "Table {}, rule {}, output {}: {} is not {}, so a claim with this entry is pended with term:{}.",
-        &values,
-    )
+    let fix = money_explanation(Some(output.role)).fix;
+    let number = usize::from(output.role.number());
+    add_name_in_table(message, document, output.table_number, rule, output.column)?;
+    let word = Part::Word(shown_front(entry));
+    message.advice(&Advice::new(cause, fix, word, Part::Number(number)))
 }
 
 // Whether a number literal is a value of the role.

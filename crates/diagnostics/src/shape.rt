@@ -167,7 +167,7 @@ impl Type {
     /// What to write in place of a value of another type, which may be an array.
     pub fn fix(self, is_array: bool) -> &'static str {
         match self {
-            Type::Integer => "Write an integer without quotes: version = 1.",
+            Type::Integer => "Write an integer without quotes: 1, 2 or 3.",
             Type::Array => "Write an array: put the items in brackets.",
             Type::FilledArray => "Write an array of at least one item, in brackets.",
             Type::Table => "Write a table: the line [roles], and the keys after it.",

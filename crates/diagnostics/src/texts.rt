@@ -181,8 +181,8 @@ fn role_explanation(role: Option<RoleKey>) -> Explanation {
     }
 }
 
-// A literal of a role that is out of the role's range.
-fn money_explanation(role: Option<RoleKey>) -> Explanation {
+/// The explanation of a literal of a role that is out of the role's range.
+pub fn money_explanation(role: Option<RoleKey>) -> Explanation {
     match role {
         Some(RoleKey::Rate) => Explanation::new(
             "The role `rate` must be from 0 to 1.",

@@ -1,5 +1,5 @@
 -- The places of a reader, and its states.
-use Rattle.std.proofs.Common.{◌≡◌, ◌≢◌, ◌<◌, ◌+◌, ℕ, Bool, true, false, zero, suc, nat_eq, List, [], ◌∷◌, ◌++◌, Some, take, length, ap, sym, refl, ◌∙◌, add-one, arith}
+use Rattle.std.proofs.Common.{◌≡◌, ◌≢◌, ◌<◌, ◌≤◌, ◌+◌, ℕ, Bool, true, false, zero, suc, nat_eq, List, [], ◌∷◌, ◌++◌, Some, take, length, ap, sym, subst, refl, ◌∙◌, add-one, arith}
 use Rattle.std.specs.List.{list_any}
 use Rattle.std.proofs.Math.Seq.{take-suc}
 use Rattle.std.proofs.lemmas.Bool.Decides.{nat_tests}
@@ -10,7 +10,7 @@ use Rattle.csv.specs.declared.parser.State.TheVariants as state
 use Rattle.remarks.specs.declared.scan.Place.{Place}
 use Rattle.remarks.specs.declared.scan.Place.TheVariants.{FieldStart, Quoted}
 use Rattle.remarks.specs.Quotes.{begins_field, byte_at, quote, state_after, state_at}
-use Rattle.remarks.specs.Scans.{place_of}
+use Rattle.remarks.specs.Scans.{is_in_quotes, place_after, place_of}
 
 -- a field begins in a state if it begins at the state's place
 pub begins_at : (s : State) → place_of s ≡ Some FieldStart → begins_field s ≡ true
@@ -92,8 +92,49 @@ stays_plain s (byte ∷ rest) (suc at) none plain =
     let later : list_any (λ b. nat_eq b quote) rest ≡ false = grind (arith, nat_tests, none) in
     stays_plain (step default_config s byte).0 rest at later (plain_step s byte other plain)
 
-plain_not_quoted : (s : State) → is_plain s ≡ true → s ≢ state.InQuoted
+pub plain_not_quoted : (s : State) → is_plain s ≡ true → s ≢ state.InQuoted
 plain_not_quoted s plain is = cc (sym plain ∙ ap is_plain is)
 
 pub without_quotes : (text : List ℕ) (at : ℕ) → list_any (λ byte. nat_eq byte quote) text ≡ false → state_at text at ≢ state.InQuoted
 without_quotes text at none = plain_not_quoted (state_at text at) (stays_plain state.StartRecord text at none refl)
+
+-- where no quoted field is open, the place after a byte that is no quote depends on this byte alone
+plain_place : (s : State) (byte : ℕ) → byte ≢ quote → is_plain s ≡ true → place_of (step default_config s byte).0 ≡ Some (place_after byte)
+plain_place state.StartRecord byte other plain = grind (arith, nat_tests, other)
+plain_place state.StartField byte other plain = grind (arith, nat_tests, other)
+plain_place state.AfterCr byte other plain = grind (arith, nat_tests, other)
+plain_place state.InField byte other plain = grind (arith, nat_tests, other)
+plain_place state.InQuoted byte other plain = cc plain
+plain_place state.AfterQuote byte other plain = cc plain
+plain_place state.InEscape byte other plain = cc plain
+plain_place state.InComment byte other plain = cc plain
+
+pub plain_at : (s : State) (place : Place) → place_of s ≡ Some place → is_in_quotes place ≡ false → is_plain s ≡ true
+plain_at state.StartRecord place at outside = refl
+plain_at state.StartField place at outside = refl
+plain_at state.AfterCr place at outside = refl
+plain_at state.InField place at outside = refl
+plain_at state.InQuoted place at outside = cc (at, outside)
+plain_at state.AfterQuote place at outside = cc (at, outside)
+plain_at state.InEscape place at outside = cc at
+plain_at state.InComment place at outside = cc at
+
+-- past bytes without quotes no quoted field is open
+pub plain_after : (text : List ℕ) (from count : ℕ) → from + count ≤ length text → ((at : ℕ) → from ≤ at → at < from + count → byte_at text at ≢ quote)
+    → is_plain (state_at text from) ≡ true → is_plain (state_at text (from + count)) ≡ true
+plain_after text from zero within none plain =
+    let here : from + 0 ≡ from = omega arith in
+    subst (λ at. is_plain (state_at text at) ≡ true) (sym here) plain
+plain_after text from (suc count) within none plain =
+    let before = plain_after text from count (omega (arith, within)) (λ at least most. none at least (omega (arith, most))) plain in
+    let next = state_more text (from + count) (omega (arith, within)) in
+    let there : from + suc count ≡ from + count + 1 = omega arith in
+    rw (there, next) (plain_step (state_at text (from + count)) (byte_at text (from + count)) (none (from + count) (omega arith) (omega arith)) before)
+
+-- the place after bytes without quotes
+pub place_past : (text : List ℕ) (from count : ℕ) → from + count < length text → ((at : ℕ) → from ≤ at → at < from + count + 1 → byte_at text at ≢ quote)
+    → is_plain (state_at text from) ≡ true → place_of (state_at text (from + count + 1)) ≡ Some (place_after (byte_at text (from + count)))
+place_past text from count within none plain =
+    let before = plain_after text from count (omega (arith, within)) (λ at least most. none at least (omega (arith, most))) plain in
+    rw (state_more text (from + count) within)
+    (plain_place (state_at text (from + count)) (byte_at text (from + count)) (none (from + count) (omega arith) (omega arith)) before)

@@ -1,14 +1,16 @@
 -- A search for quoted fields that reads one more byte, and its end.
-use Rattle.std.proofs.Common.{◌≡◌, ◌≢◌, ◌⊎◌, ◌+◌, ℕ, true, List, Option, None, Some, MatchOption, unwrap_or, length, ap, sym, subst, inl, inr, ◌∙◌, arith}
+use Rattle.std.proofs.Common.{◌≡◌, ◌≢◌, ◌<◌, ◌≤◌, ◌⊎◌, ◌+◌, ◌-◌, ℕ, true, false, List, Option, None, Some, MatchOption, unwrap_or, length, ap, sym, subst, inl, inr, ◌∙◌, arith}
 use native.Mathlib.Decide.{dec_lt}
+use Rattle.std.proofs.lemmas.Bool.{false≢true}
+use Rattle.std.proofs.lemmas.Bool.Decides.{nat_tests}
 use Rattle.std.proofs.lemmas.List.{take_all}
 use Rattle.csv.specs.declared.parser.State.TheVariants as state
 use Rattle.remarks.specs.declared.scan.Place.{Place}
 use Rattle.remarks.specs.declared.scan.Place.TheVariants.{FieldStart, Quoted}
 use Rattle.remarks.specs.declared.scan.Scan.{Scan}
 use Rattle.remarks.specs.Quotes.{BreaksField, EndsLine, IsFirstBroken, OpensField, OpensLast, byte_at, quote, state_after, state_at}
-use Rattle.remarks.specs.Scans.{IsScanned, IsUnbroken, is_in_quotes, place_of}
-use Rattle.remarks.proofs.Places.{begins_at, place_at_start, place_in_quotes, quoted_at}
+use Rattle.remarks.specs.Scans.{IsScanned, IsUnbroken, is_in_quotes, place_after, place_of}
+use Rattle.remarks.proofs.Places.{begins_at, is_plain, place_at_start, place_in_quotes, place_past, plain_after, plain_at, plain_not_quoted, quoted_at}
 
 -- a byte that opens no field leaves the last opened one
 still_opened : (text : List ℕ) (at opened : ℕ) → OpensLast text at opened → ¬ OpensField text at → OpensLast text (at + 1) opened
@@ -91,6 +93,41 @@ scanned_other text at old new known stands opened first entered other whole = re
   opened = λ within. rw opened (kept_open text at old new.place known entered other within);
   broken = still_broken text at old.first_long new.first_long first (no_break text at old.place known.place whole) known.broken;
 }
+
+-- no byte before the next quote breaks a field
+unbroken_past : (text : List ℕ) (from end : ℕ) → end ≤ length text → ((at : ℕ) → from ≤ at → at < end → byte_at text at ≢ quote) → is_plain (state_at text from) ≡ true
+    → IsUnbroken text from → IsUnbroken text end
+unbroken_past text from end within none plain known place below breaks =
+    elim (dec_lt place from) [
+      | yes earlier ↦ known place earlier breaks
+      | no not_earlier ↦
+          let there : from + (place - from) ≡ place = omega (arith, not_earlier) in
+          let later = plain_after text from (place - from) (omega (arith, there, below, within)) (λ at least most. none at least (omega (arith, there, most, below))) plain in
+          plain_not_quoted (state_at text place) (rw there at later) breaks.quoted
+    ]
+
+broken_past : (text : List ℕ) (from end : ℕ) (first next : Option ℕ) → next ≡ first → (IsUnbroken text from → IsUnbroken text end)
+    → MatchOption first (IsUnbroken text from) (IsFirstBroken text) → MatchOption next (IsUnbroken text end) (IsFirstBroken text)
+broken_past text from end None next same on known = rw same (on known)
+broken_past text from end (Some it) next same on known = rw same known
+
+not_in_quotes : (byte : ℕ) → is_in_quotes (place_after byte) ≡ false
+not_in_quotes byte = grind (arith, nat_tests)
+
+-- the bytes before the next quote, where no quoted field is open
+pub scanned_past : (text : List ℕ) (from end : ℕ) (old new : Scan) → from < end → end ≤ length text → ((at : ℕ) → from ≤ at → at < end → byte_at text at ≢ quote)
+    → is_in_quotes old.place ≡ false → IsScanned text from old → new.place ≡ place_after (byte_at text (end - 1)) → new.first_long ≡ old.first_long → IsScanned text end new
+scanned_past text from end old new some within none outside known stands first =
+    let plain = plain_at (state_at text from) old.place known.place outside in
+    let count = end - 1 - from in
+    let last : from + count ≡ end - 1 = omega (arith, some) in
+    let next : from + count + 1 ≡ end = omega (arith, some) in
+    let past = place_past text from count (omega (arith, last, some, within)) (λ at least most. none at least (omega (arith, next, most))) plain in
+    record {
+      place = rw stands (rw (next, last) at past);
+      opened = λ inside. absurd (false≢true (sym (not_in_quotes (byte_at text (end - 1))) ∙ ap is_in_quotes (sym stands) ∙ inside));
+      broken = broken_past text from end old.first_long new.first_long first (unbroken_past text from end within none plain) known.broken;
+    }
 
 whole : (text : List ℕ) → state_at text (length text) ≡ state_after state.StartRecord text
 whole text = ap (state_after state.StartRecord) (take_all (length text) text (omega arith))

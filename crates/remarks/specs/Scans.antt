@@ -1,5 +1,6 @@
 -- A search for quoted fields, after the first bytes of a text.
-use Rattle.std.specs.Prelude.{◌≡◌, ◌<◌, ℕ, Bool, true, false, List, Option, Some, None, MatchOption}
+use Rattle.std.specs.Prelude.{◌≡◌, ◌<◌, ◌==◌, ◌||◌, ℕ, Bool, true, false, List, Option, Some, None, MatchOption, if◌then◌else◌}
+use Rattle.csv.specs.Machine.{carriage_return, line_feed}
 use Rattle.csv.specs.declared.parser.State.{State}
 use Rattle.csv.specs.declared.parser.State.TheVariants as state
 use Rattle.remarks.specs.declared.scan.Place.{Place}
@@ -24,6 +25,10 @@ is_in_quotes FieldStart = false
 is_in_quotes Unquoted = false
 is_in_quotes Quoted = true
 is_in_quotes AfterQuote = true
+
+-- the place after a byte that is no quote, where no quoted field is open
+abbrev pub place_after : ℕ → Place
+place_after byte = if (byte == 44) || (byte == line_feed) || (byte == carriage_return) then FieldStart else Unquoted
 
 -- no byte before the end is a line end within a quoted field
 abbrev pub IsUnbroken : List ℕ → ℕ → Type 0

@@ -1,12 +1,12 @@
 //! Finds quoted fields that are never closed, and records that run over several lines.
 
-ghost use Rattle.std.specs.Prelude.{◌≡◌, ◌≢◌, ◌⊎◌, ◌↔◌, ◌<◌, ◌+◌, ℕ, length, true, unwrap_or, None, Some, IfNone, IfSome, IsTrue};
+ghost use Rattle.std.specs.Prelude.{◌≡◌, ◌≢◌, ◌⊎◌, ◌↔◌, ◌<◌, ◌≤◌, ◌+◌, ℕ, length, false, true, unwrap_or, None, Some, IfNone, IfSome, IsTrue};
 ghost use Rattle.csv.specs.Machine.{step};
 ghost use Rattle.csv.specs.Reading.{default_config};
 ghost use Rattle.csv.specs.declared.parser.State.{State};
 ghost use Rattle.csv.specs.declared.parser.State.TheVariants.{InQuoted, StartRecord};
-ghost use Rattle.remarks.specs.Quotes.{BreaksField, EndsLine, IsFirstBroken, IsOpenAt, quote, state_after};
-ghost use Rattle.remarks.specs.Scans.{IsScanned, is_in_quotes, place_of};
+ghost use Rattle.remarks.specs.Quotes.{BreaksField, EndsLine, IsFirstBroken, IsOpenAt, byte_at, quote, state_after};
+ghost use Rattle.remarks.specs.Scans.{IsScanned, is_in_quotes, place_after, place_of};
 
 /// The place of a reader in a record.
 #[derive(Clone, Copy, PartialEq, Eq)]
@@ -40,6 +40,18 @@ impl Place {
         Place::Unquoted
     }
 
+    // Whether the place is after the opening quote of a field, and not after its end.
+    fn is_in_quotes(self) -> bool
+        ensures { result ≡ is_in_quotes self }
+    {
+        match self {
+            Place::FieldStart => false,
+            Place::Unquoted => false,
+            Place::Quoted => true,
+            Place::AfterQuote => true,
+        }
+    }
+
     fn after_quote(self) -> Place
         ensures steps { (state : State) → place_of state ≡ Some self
             → place_of (step default_config state quote).0 ≡ Some result }
@@ -67,6 +79,37 @@ impl Place {
     {
         is_line_end(byte) && self == Place::Quoted
     }
+}
+
+// The place after a byte that is no quote, where no quoted field is open.
+fn place_after(byte: u8) -> Place
+    ensures { result ≡ place_after byte }
+{
+    if byte == b',' || is_line_end(byte) {
+        Place::FieldStart
+    } else {
+        Place::Unquoted
+    }
+}
+
+// Whether a record with a line end in a field goes on after these bytes, where no quoted field is open.
+fn stays_long(is_long: bool, bytes: &[u8]) -> bool {
+    is_long && !bytes.iter().any(|byte| is_line_end(*byte))
+}
+
+// The index of the first quote from this byte on, or the length of the text.
+fn next_quote(text: &[u8], from: usize) -> usize
+    requires { from ≤ length text.now }
+    ensures least { from ≤ result }
+    ensures most { result ≤ length text.now }
+    ensures none { (at : ℕ) → from ≤ at → at < result → byte_at text.now at ≢ quote }
+{
+    for at in from..text.len() {
+        if text[at] == b'"' {
+            return at;
+        }
+    }
+    text.len()
 }
 
 fn is_line_end(byte: u8) -> bool
@@ -101,6 +144,18 @@ pub fn quotes_of(text: &[u8]) -> Quotes
             first_long: None,
         };
     }
+    let scan = scan_of(text);
+    Quotes {
+        unclosed: scan.unclosed_quote(),
+        long: scan.long,
+        first_long: scan.first_long,
+    }
+}
+
+// Searches the whole text.
+fn scan_of(text: &[u8]) -> Scan
+    ensures { IsScanned text.now (length text.now) result }
+{
     let mut scan = Scan {
         place: Place::FieldStart,
         opened: 0,
@@ -108,14 +163,11 @@ pub fn quotes_of(text: &[u8]) -> Quotes
         long: 0,
         first_long: None,
     };
-    for at in 0..text.len() {
-        scan.read(text, at);
+    let mut at = 0;
+    'bytes: while at < text.len() {
+        at = scan.read_on(text, at);
     }
-    Quotes {
-        unclosed: scan.unclosed_quote(),
-        long: scan.long,
-        first_long: scan.first_long,
-    }
+    scan
 }
 
 /// A search in a text.
@@ -131,6 +183,39 @@ struct Scan {
 }
 
 impl Scan {
+    // Reads on from this byte, past all bytes before the next quote where no quoted field is open. Returns the index after the
+    // bytes read.
+    fn read_on(&mut self, text: &[u8], at: usize) -> usize
+        requires within { at < length text.now }
+        requires scanned { IsScanned text.now at self.old }
+        ensures on { at < result }
+        ensures within { result ≤ length text.now }
+        ensures scanned { IsScanned text.now result self.new }
+    {
+        if !self.place.is_in_quotes() {
+            let end = next_quote(text, at);
+            if at < end {
+                self.pass(text, at, end);
+                return end;
+            }
+        }
+        self.read(text, at);
+        at + 1
+    }
+
+    // Passes bytes without a quote where no quoted field is open.
+    fn pass(&mut self, text: &[u8], from: usize, end: usize)
+        requires some { from < end }
+        requires within { end ≤ length text.now }
+        requires none { (at : ℕ) → from ≤ at → at < end → byte_at text.now at ≢ quote }
+        requires outside { is_in_quotes self.old.place ≡ false }
+        requires scanned { IsScanned text.now from self.old }
+        ensures { IsScanned text.now end self.new }
+    {
+        self.place = place_after(text[end - 1]);
+        self.is_long = stays_long(self.is_long, &text[from..end]);
+    }
+
     fn read(&mut self, text: &[u8], at: usize)
         requires within { at < length text.now }
         requires scanned { IsScanned text.now at self.old }

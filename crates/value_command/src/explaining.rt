@@ -4,7 +4,7 @@ use crate::explanation::{About, print_message};
 use console::names::{ASSIGNMENT, PLAN};
 use diagnostics::{
     Message, argument_given_twice, argument_of_unknown_name, argument_without_equals, explain,
-    explain_argument, explain_literal, explain_plan, explain_tables, memory, missing_value,
+    explain_argument, explain_literal, explain_missing, explain_plan, explain_tables, memory,
     write_explanation,
 };
 use evaluation::{ArgumentFault, ValueStop};
@@ -34,7 +34,10 @@ pub fn value_message(
         ValueStop::Plan(fault) => explain_plan(alloc, about.word(PLAN), about.plan, fault),
         ValueStop::Argument { number, fault } => argument_message(alloc, about, *number, fault),
         ValueStop::Tables(fault) => explain_tables(alloc, about.word(PLAN), about.plan, fault),
-        ValueStop::Missing(_) => explain(alloc, missing_value()),
+        ValueStop::Missing(_) => {
+            let arguments = about.words.get_strs(ASSIGNMENT).unwrap_or(&[]);
+            explain_missing(alloc, about.plan, arguments)
+        }
         ValueStop::Write { .. } => explain(alloc, write_explanation(WriteCause::Device)),
         ValueStop::NoMemory => explain(alloc, memory()),
     }

@@ -1,5 +1,5 @@
-use Rattle.std.proofs.Common.{◌∙◌, sym, arith}
-use Rattle.remarks.proofs.Places.{begins_text, without_quotes}
+use Rattle.std.proofs.Common.{◌∙◌, sym}
+use Rattle.remarks.proofs.Places.{without_quotes}
 use Rattle.remarks.proofs.Scanning.{without_quote_closed}
 use Rattle.remarks.proofs.scan.quotes_of.Goals as goal
 
@@ -12,6 +12,3 @@ pub returns-then-not-contains-clause-unbroken : goal.returns-then-not-contains-c
 returns-then-not-contains-clause-unbroken c =
     let none = sym c.contains.ensures.value ∙ c.if-not-contains.true in
     λ at breaks. without_quotes c.args.text.now at none breaks.quoted
-
-pub loop-at-init : goal.loop-at-init
-loop-at-init c = record { place = begins_text c.args.text.now; opened = λ within. cc within; broken = λ at below. absurd (omega (arith, below)) }
