@@ -1,5 +1,5 @@
 -- The exit statuses of `explain`, from those of its parts.
-use Rattle.std.proofs.Common.{◌≡◌, Bor, ℕ, List, Option, Some, inl, inr, subst, sym}
+use Rattle.std.proofs.Common.{◌≡◌, Bor, ℕ, List, Option, Some, inl, inr, refl, subst, sym}
 use Rattle.clap.specs.declared.parser.matches.ArgMatches.{ArgMatches}
 use Rattle.console.specs.declared.exit_status.ExitStatus.{ExitStatus}
 use Rattle.console.specs.declared.exit_status.ExitStatus.TheVariants.{Done, Refused}
@@ -9,6 +9,7 @@ use Rattle.value_command.proofs.Ends.{unjudged_not_refused}
 use Rattle.journal.specs.declared.order.Order.{Order}
 use Rattle.orders.specs.RunTexts.{RunTexts}
 use Rattle.explanation.specs.Explained.{HasNoFamily, HasNoRecord, IsExplanation, IsFamilyExplanation, IsFoundIn, Writes, WritesFamily}
+use Rattle.explanation.specs.Laws.{FoundClaimHasRecord}
 use Rattle.explanation.specs.declared.explaining.Explained.{Explained}
 use Rattle.explanation.specs.declared.explaining.Explained.TheVariants as explained
 use Rattle.explanation.specs.declared.finding.FoundClaim.{FoundClaim}
@@ -68,10 +69,13 @@ found_done order texts id format found status first done is_done =
     let has = done is_done in
     record { text = has.text; is_text = record { found = found; first = first; explains = has.is_text } }
 
--- it is not explained
-pub found_refused : (order : Order) (texts : RunTexts) (id : List ℕ) (found : FoundClaim) (status : ExitStatus) → IsFoundIn (without_balances texts) id (Some found)
-    → (status ≡ Refused → IsRecordUnexplained order texts found.place status) → status ≡ Refused → IsClaimUnexplained order texts id status
-found_refused order texts id found status first refused is_refused = inr (inl (found, first, refused is_refused))
+-- it is not explained, though it has a record
+pub found_refused : FoundClaimHasRecord → (order : Order) (texts : RunTexts) (id : List ℕ) (found : FoundClaim) (status : ExitStatus) → IsFoundIn (without_balances texts) id (Some found)
+    → (status ≡ Refused → IsRecordUnexplained order texts found.place status) → status ≡ Refused → IsClaimUnexplained texts id status
+found_refused has order texts id found status first refused is_refused = elim (refused is_refused) [
+  | inl missing ↦ absurd (has order (without_balances texts) texts id found refl refl first missing)
+  | inr reason ↦ inr (inl (found, first, reason))
+]
 
 -- the claim with an identifier is explained where it is asked for
 pub claim_is_asked : (order : Order) (texts : RunTexts) (subject : Subject) (id : Bor (List ℕ)) (format : Format) (status : ExitStatus) → subject ≡ Claim id

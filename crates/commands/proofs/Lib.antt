@@ -3,3 +3,5 @@ pub mod Statuses
 pub mod Explanations
 pub mod Named
 pub mod Ordered
+pub mod WholePlans
+pub mod TestStatuses

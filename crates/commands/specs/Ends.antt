@@ -1,10 +1,10 @@
 -- The meaning of the exit statuses of the commands.
-use Rattle.std.specs.Prelude.{◌≡◌, ◌≢◌, ◌⊎◌, ℕ, List, Option, Result, Ok, Err}
+use Rattle.std.specs.Prelude.{◌≡◌, ◌≢◌, ◌⊎◌, ℕ, true, false, List, Option, Result, Ok, Err}
 use Rattle.clap.specs.declared.error.Error.{Error}
 use Rattle.clap.specs.declared.parser.matches.ArgMatches.{ArgMatches}
 use Rattle.console.specs.declared.exit_status.ExitStatus.{ExitStatus}
 use Rattle.console.specs.declared.exit_status.ExitStatus.TheVariants.{Refused}
-use Rattle.console.specs.declared.names.TheConstants.{AUDIT, CHECK, EXPLAIN_RECORD, RUN, VALUE}
+use Rattle.console.specs.declared.names.TheConstants.{AUDIT, CHECK, EXPLAIN_RECORD, RUN, TEST, VALUE}
 use Rattle.console.specs.ExitStatus.{IsUnjudged}
 use Rattle.value_command.specs.Ends.{Ends, HasText, IsHelp, IsStatusOf, ValueIsDone, ValueIsRefused}
 use Rattle.value_command.specs.Texts.{IsNamedPlan, Whole}
@@ -20,28 +20,43 @@ use Rattle.adjudicate.specs.Findings.{IsReportedText}
 use Rattle.commands.specs.declared.run.Texts.{Texts}
 use Rattle.adjudicate.specs.Audits.{IsAuditReason}
 use Rattle.commands.specs.Explanations.{ExplainIsDone, ExplainIsRefused}
+use Rattle.commands.specs.Testing.{TestIsDone, TestIsRefused}
 use Rattle.commands.specs.Texts.{AreClosed, HasNamedTexts, IsNamedRemittance, texts_at}
-use Rattle.commands.specs.Words.{AsksStrict, IsCutoff, IsStrict, IsFindings, IsOrder, IsWorkers}
+use Rattle.commands.specs.WholePlans.{IsWholeChecked, IsWholeRefused}
+use Rattle.commands.specs.Words.{AsksStrict, IsCutoff, IsFindings, IsOrder, IsStrict, IsWhole, IsWorkers}
 
 -- some error has this reason, and this is its exit status
 abbrev pub IsStatusOfRefusal : (Stop → Type 0) → ExitStatus → Type 0
 IsStatusOfRefusal IsReason status = IsStatusOf status_of IsReason status
 
--- `check` can end with `Done`: the named plan has an output text, with the gaps and overlaps that the option selects
-pub record CheckIsDone (whole : Whole) (words : ArgMatches) : Type 0 where
-  pub plan : List ℕ
-  pub named : IsNamedPlan whole words plan
+-- each table of the plan is checked alone: the plan has an output text, with the gaps and overlaps that the option selects
+pub record AreTablesChecked (words : ArgMatches) (plan : List ℕ) : Type 0 where
+  pub each : IsWhole words false
   pub findings : Findings
   pub reports : IsFindings words findings
   pub has_text : HasText (IsReportedText findings plan)
 
--- this is the exit status of an error of the named plan
+-- each table of the plan is checked alone, or all of them together
+abbrev pub IsChecked : ArgMatches → List ℕ → Type 0
+IsChecked words plan = AreTablesChecked words plan ⊎ (IsWhole words true × IsWholeChecked words plan)
+
+-- this is the exit status of an error of the plan, or of a check of all tables together
+abbrev pub IsUnchecked : ArgMatches → List ℕ → ExitStatus → Type 0
+IsUnchecked words plan status = IsStatusOfRefusal (IsPlanReason plan) status ⊎ (IsWhole words true × IsWholeRefused words plan status)
+
+-- `check` can end with `Done`: the named plan is checked
+pub record CheckIsDone (whole : Whole) (words : ArgMatches) : Type 0 where
+  pub plan : List ℕ
+  pub named : IsNamedPlan whole words plan
+  pub checked : IsChecked words plan
+
+-- this is the exit status of an error of a check of the named plan
 pub record PlanIsRefused (whole : Whole) (words : ArgMatches) (status : ExitStatus) : Type 0 where
   pub plan : List ℕ
   pub named : IsNamedPlan whole words plan
-  pub refused : IsStatusOfRefusal (IsPlanReason plan) status
+  pub refused : IsUnchecked words plan status
 
--- `check` can end with this status: it is that of an error of the named plan, or unknown keys are errors
+-- `check` can end with this status: it is that of an error of a check of the named plan, or unknown keys are errors
 abbrev pub CheckIsRefused : Whole → ArgMatches → ExitStatus → Type 0
 CheckIsRefused whole words status = PlanIsRefused whole words status ⊎ IsStrict words
 
@@ -138,7 +153,8 @@ CommandIsDone whole matches =
     Ends matches VALUE.now (ValueIsDone whole)
     ⊎ (Ends matches CHECK.now (CheckIsDone whole)
     ⊎ (Ends matches RUN.now (RunIsDone whole)
-    ⊎ (Ends matches AUDIT.now (AuditIsDone whole) ⊎ Ends matches EXPLAIN_RECORD.now (ExplainIsDone whole))))
+    ⊎ (Ends matches AUDIT.now (AuditIsDone whole)
+    ⊎ (Ends matches EXPLAIN_RECORD.now (ExplainIsDone whole) ⊎ Ends matches TEST.now (TestIsDone whole)))))
 
 -- the named command can end with this status of an error
 abbrev pub CommandIsRefused : Whole → ArgMatches → ExitStatus → Type 0
@@ -147,7 +163,8 @@ CommandIsRefused whole matches status =
     ⊎ (Ends matches CHECK.now (λ words. CheckIsRefused whole words status)
     ⊎ (Ends matches RUN.now (λ words. RunIsRefused whole words status)
     ⊎ (Ends matches AUDIT.now (λ words. AuditIsRefused whole words status)
-    ⊎ Ends matches EXPLAIN_RECORD.now (λ words. ExplainIsRefused whole words status))))
+    ⊎ (Ends matches EXPLAIN_RECORD.now (λ words. ExplainIsRefused whole words status)
+    ⊎ Ends matches TEST.now (λ words. TestIsRefused whole words status)))))
 
 -- the command line names a command that can end with `Done`, or it asks for help or the version
 abbrev pub IsDone : Whole → Result ArgMatches Error → Type 0

@@ -106,11 +106,11 @@ IsTextsRefused texts status = IsStatusOf status_of (IsExplainReason texts) statu
 abbrev pub IsRecordUnexplained : Order → RunTexts → Place → ExitStatus → Type 0
 IsRecordUnexplained order texts place status = HasNoRecord order texts place ⊎ IsTextsRefused texts status
 
--- the texts have no claim with this identifier, its record is not explained, or this is the exit status of an error of the search for it
-abbrev pub IsClaimUnexplained : Order → RunTexts → List ℕ → ExitStatus → Type 0
-IsClaimUnexplained order texts id status =
+-- the texts have no claim with this identifier, or this is the exit status of an error of its explanation or of the search for it
+abbrev pub IsClaimUnexplained : RunTexts → List ℕ → ExitStatus → Type 0
+IsClaimUnexplained texts id status =
     IsFoundIn (without_balances texts) id None
-    ⊎ (((found : FoundClaim) × IsFoundIn (without_balances texts) id (Some found) × IsRecordUnexplained order texts found.place status)
+    ⊎ (((found : FoundClaim) × IsFoundIn (without_balances texts) id (Some found) × IsTextsRefused texts status)
     ⊎ IsTextsRefused (without_balances texts) status)
 
 -- the texts have no claim of this family, or this is the exit status of an error of an explanation of them
@@ -120,7 +120,7 @@ IsFamilyUnexplained order texts name status = HasNoFamily order texts name ⊎ I
 -- what is asked for is not explained, with this exit status
 abbrev pub IsUnexplained : Order → RunTexts → Subject → ExitStatus → Type 0
 IsUnexplained order texts (Record place) status = IsRecordUnexplained order texts place status
-IsUnexplained order texts (Claim id) status = IsClaimUnexplained order texts id.now status
+IsUnexplained order texts (Claim id) status = IsClaimUnexplained texts id.now status
 IsUnexplained order texts (Member name) status = IsFamilyUnexplained order texts name.now status
 IsUnexplained order texts (Family name) status = IsFamilyUnexplained order texts name.now status
 

@@ -4,7 +4,7 @@ use Rattle.std.specs.Option.{SomeIff}
 use Rattle.std.specs.Str.Parse.{IsNumeral, digits_value, without_leading_plus}
 use Rattle.clap.specs.Words.{found_of, one_text}
 use Rattle.clap.specs.declared.parser.matches.ArgMatches.{ArgMatches}
-use Rattle.console.specs.declared.names.TheConstants.{BY_FILES, BY_SERVICE, CUTOFF, ERRORS_ONLY, ORDER, STRICT, WORKERS}
+use Rattle.console.specs.declared.names.TheConstants.{BY_FILES, BY_SERVICE, CUTOFF, ERRORS_ONLY, FAIL, ORDER, STRICT, WHOLE, WORKERS}
 use Rattle.journal.specs.declared.order.Order.{Order}
 use Rattle.journal.specs.declared.order.Order.TheVariants.{Any, Files, Service}
 use Rattle.value_command.specs.Words.{word_at}
@@ -35,6 +35,18 @@ IsStrict matches = IsFlag (text_at matches STRICT.now) true
 -- the command line has the option `--strict`
 abbrev pub AsksStrict : ArgMatches → Type 0
 AsksStrict matches = text_at matches STRICT.now ≡ Some (codes "true")
+
+-- all tables of a plan are checked together, or each one alone
+abbrev pub IsWhole : ArgMatches → Bool → Type 0
+IsWhole matches whole = IsFlag (text_at matches WHOLE.now) whole
+
+-- the status is that of an error where anything is reported
+abbrev pub IsFail : ArgMatches → Type 0
+IsFail matches = IsFlag (text_at matches FAIL.now) true
+
+-- the command line has the option `--fail`
+abbrev pub AsksFail : ArgMatches → Type 0
+AsksFail matches = text_at matches FAIL.now ≡ Some (codes "true")
 
 -- only violations of a hit policy are listed
 abbrev pub is_errors_only : Findings → Bool

@@ -1,4 +1,4 @@
-//! The command `check`: reads the plan, and writes its gaps and overlaps.
+//! The command `check`: reads the plan, and writes its gaps and overlaps, or what pends claims over all tables together.
 
 ghost use Rattle.std.specs.Prelude.{◌≡◌, ◌≢◌};
 ghost use Rattle.console.specs.declared.exit_status.ExitStatus.TheVariants.{Done, Refused};
@@ -6,16 +6,19 @@ ghost use Rattle.std.specs.Io.KnownBytes.{Keeps};
 ghost use Rattle.orders.specs.Stop.{IsPlanReason};
 ghost use Rattle.adjudicate.specs.Findings.{IsReportedText};
 ghost use Rattle.value_command.specs.Ends.{HasText, PutsText};
-ghost use Rattle.commands.specs.Ends.{CheckIsDone, CheckIsRefused, IsStatusOfRefusal};
+ghost use Rattle.commands.specs.Ends.{CheckIsDone, CheckIsRefused, IsChecked, IsStatusOfRefusal, IsUnchecked};
 
 use crate::explaining::{AboutFiles, explain_refusal};
+use crate::remarking::print_unknown_keys;
 use crate::strict::refuse_unused;
-use crate::words::{findings_of, is_strict};
+use crate::whole_check::whole_check;
+use crate::words::{findings_of, is_strict, is_whole};
 use adjudicate::{Findings, do_findings_check};
 use clap::ArgMatches;
 use console::{AtomicTarget, ExitStatus, Sources};
-use diagnostics::explain_role_entries;
+use diagnostics::explain_checked_plan;
 use fixpoint::Out;
+use remarks::empty_cells;
 use std::io;
 use std::rt::Files;
 use value_command::{
@@ -23,6 +26,7 @@ use value_command::{
 };
 
 /// Runs the command `check`, and returns its exit status.
+#[tactic(auto, using(crate::proofs::WholePlans::check_done, crate::proofs::WholePlans::check_refused))]
 pub fn check_of<R: Files + Print + Eprint + AllocGlobal, S: Sources>(
     rt: &R,
     sources: &S,
@@ -36,24 +40,46 @@ pub fn check_of<R: Files + Print + Eprint + AllocGlobal, S: Sources>(
         Ok(plan) => plan,
         Err(status) => return status,
     };
-    let findings = findings_of(matches);
-    let status = check_plan(rt, matches, plan.as_slice(), findings, explains);
-    report_role_entries(rt, plan.as_slice(), status, explains);
+    let about = About {
+        explains,
+        words: matches,
+        plan: plan.as_slice(),
+    };
+    let status = checked_status(rt, &about);
+    explain_checked(rt, &about, status);
     if is_strict(matches) {
-        return strict_status(rt, plan.as_slice(), status);
+        return strict_status(rt, about.plan, status);
+    }
+    if explains && status == ExitStatus::Done {
+        print_unknown_keys(rt, about.plan);
     }
     status
 }
 
-// Reports entries of a checked plan that pend each claim that gets them.
-fn report_role_entries<R: Eprint + AllocGlobal>(
-    rt: &R,
-    plan: &[u8],
-    status: ExitStatus,
-    explains: bool,
-) {
-    if explains && status == ExitStatus::Done {
-        print_message(rt, explain_role_entries(rt.alloc(), plan));
+/// Checks all tables together, or each of them alone.
+#[tactic(auto, using(crate::proofs::WholePlans::whole_checked, crate::proofs::WholePlans::whole_unchecked, crate::proofs::WholePlans::tables_checked, crate::proofs::WholePlans::tables_unchecked))]
+fn checked_status<R: Files + Print + Eprint + AllocGlobal>(rt: &R, about: &About) -> ExitStatus
+    ensures done { result ≡ Done → IsChecked about.now.words.now about.now.plan.now }
+    ensures refused { result ≡ Refused
+        → IsUnchecked about.now.words.now about.now.plan.now result }
+{
+    if is_whole(about.words) {
+        whole_check(rt, about)
+    } else {
+        check_plan(rt, about, findings_of(about.words))
+    }
+}
+
+// Explains what a checked plan has that its writer cannot have meant. If memory runs out for it, it is left out.
+fn explain_checked<R: Eprint + AllocGlobal>(rt: &R, about: &About, status: ExitStatus) {
+    if about.explains
+        && status == ExitStatus::Done
+        && let Ok(empty) = empty_cells(rt.alloc(), about.plan)
+    {
+        print_message(
+            rt,
+            explain_checked_plan(rt.alloc(), about.plan, empty.as_slice()),
+        );
     }
 }
 
@@ -74,22 +100,15 @@ fn strict_status<R: Eprint + AllocGlobal>(rt: &R, plan: &[u8], status: ExitStatu
 /// Writes to the file of `--output` if there is one, and otherwise to standard output.
 fn check_plan<R: Files + Print + Eprint + AllocGlobal>(
     rt: &R,
-    matches: &ArgMatches<'_>,
-    plan: &[u8],
+    about: &About,
     findings: Findings,
-    explains: bool,
 ) -> ExitStatus
-    ensures done { result ≡ Done → HasText (IsReportedText findings plan.now) }
-    ensures refused { result ≢ Done → IsStatusOfRefusal (IsPlanReason plan.now) result }
+    ensures done { result ≡ Done → HasText (IsReportedText findings about.now.plan.now) }
+    ensures refused { result ≢ Done → IsStatusOfRefusal (IsPlanReason about.now.plan.now) result }
 {
-    let about = About {
-        explains,
-        words: matches,
-        plan,
-    };
-    match output_of(rt, &about) {
-        Ok(Some(mut file)) => check_into(rt, &about, plan, findings, &mut file),
-        Ok(None) => check(rt, &about, plan, findings),
+    match output_of(rt, about) {
+        Ok(Some(mut file)) => check_into(rt, about, about.plan, findings, &mut file),
+        Ok(None) => check(rt, about, about.plan, findings),
         Err(status) => status,
     }
 }

@@ -8,9 +8,10 @@ use crate::auditing::audit_of;
 use crate::check::check_of;
 use crate::explained::explain_of;
 use crate::run::run_of;
+use crate::testing::test_of;
 use adjudicate::WORKERS_LIMIT;
 use clap::{ArgMatches, Error};
-use console::names::{AUDIT, CHECK, EXPLAIN_RECORD, RUN, VALUE};
+use console::names::{AUDIT, CHECK, EXPLAIN_RECORD, RUN, TEST, VALUE};
 use console::{
     ExitStatus, Sources, explains, grow_stack, matches_of, no_memory, prepare_outputs,
     program_arguments, usage,
@@ -66,7 +67,7 @@ where
     }
 }
 
-/// `clap` accepts no command but these five.
+/// `clap` accepts no command but these six.
 fn command<R, S: Sources>(
     rt: &R,
     sources: &S,
@@ -91,8 +92,11 @@ where
     if let Some(words) = matches.subcommand_matches(AUDIT) {
         return audit_of(rt, sources, words, explains(words, is_watched));
     }
-    match matches.subcommand_matches(EXPLAIN_RECORD) {
-        Some(words) => explain_of(rt, sources, words, explains(words, is_watched)),
+    if let Some(words) = matches.subcommand_matches(EXPLAIN_RECORD) {
+        return explain_of(rt, sources, words, explains(words, is_watched));
+    }
+    match matches.subcommand_matches(TEST) {
+        Some(words) => test_of(rt, sources, words, explains(words, is_watched)),
         None => ExitStatus::Usage,
     }
 }

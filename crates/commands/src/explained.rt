@@ -17,7 +17,7 @@ use diagnostics::{Explanation, explain, push_printable};
 use dtable::read_plan;
 use explanation::{
     ExplainFamilyInput, ExplainInput, Explained, Format, FoundClaim, Order, Place, do_explain,
-    do_explain_family, find_claim,
+    do_explain_family, find_claim, found_claim_has_a_record,
 };
 use fixpoint::Out;
 use std::alloc::{AllocError, Global};
@@ -138,8 +138,8 @@ fn explain_claim<R: Print + Eprint + AllocGlobal>(
     requires ordered { given.order ≢ Order.Any }
     ensures done { result ≡ Done → HasText (IsClaimExplanation given.entry.order
         (given_texts given.entry) id.now given.entry.format) }
-    ensures refused { result ≡ Refused → IsClaimUnexplained given.entry.order
-        (given_texts given.entry) id.now result }
+    ensures refused { result ≡ Refused
+        → IsClaimUnexplained (given_texts given.entry) id.now result }
 {
     match find_claim(rt.alloc(), given.plan, given.files, id) {
         Ok(found) => explain_found(rt, about, given, id, found),
@@ -159,9 +159,11 @@ fn explain_found<R: Print + Eprint + AllocGlobal>(
     requires found { IsFoundIn (without_balances (given_texts given)) id.now found }
     ensures done { result ≡ Done → HasText (IsClaimExplanation given.entry.order
         (given_texts given.entry) id.now given.entry.format) }
-    ensures refused { result ≡ Refused → IsClaimUnexplained given.entry.order
-        (given_texts given.entry) id.now result }
+    ensures refused { result ≡ Refused
+        → IsClaimUnexplained (given_texts given.entry) id.now result }
 {
+    // proof: the claim that was found has a record
+    found_claim_has_a_record();
     let Some(first) = found else {
         return report_missing(rt, about, Subject::Claim(id));
     };

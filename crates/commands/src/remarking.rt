@@ -100,8 +100,8 @@ fn add_files(
     Ok(())
 }
 
-// If memory runs out for the lines, they are left out.
-fn print_unknown_keys<R: Eprint + AllocGlobal>(rt: &R, plan: &[u8]) {
+/// Prints a line for each unknown key of the plan. If memory runs out for the lines, they are left out.
+pub fn print_unknown_keys<R: Eprint + AllocGlobal>(rt: &R, plan: &[u8]) {
     if let Ok(text) = str::from_utf8(plan)
         && let Ok(lines) = unknown_keys(rt.alloc(), text)
     {
@@ -109,7 +109,8 @@ fn print_unknown_keys<R: Eprint + AllocGlobal>(rt: &R, plan: &[u8]) {
     }
 }
 
-fn print_lines<R: Eprint>(rt: &R, lines: &str) {
+/// Prints these lines, if there are any.
+pub fn print_lines<R: Eprint>(rt: &R, lines: &str) {
     if !lines.is_empty() {
         let _ = rt.eprint(lines);
     }

@@ -6,8 +6,9 @@ ghost use Rattle.clap.specs.declared.builder.value_parser.ValueParser.TheVariant
 ghost use Rattle.console.specs.Limits.{TakesWords, cutoff_limit};
 
 use crate::names::{
-    AS_CSV, AS_TEXT, ASSIGNMENT, BALANCES, BY_FILES, BY_SERVICE, CLAIM_ID, CLOSING, CUTOFF,
-    EXPLAINED, FAMILY, FILE, FORMAT, MEMBER, ORDER, OUTPUT, PLAN, RECORD, REMITTANCE, WORKERS,
+    AS_CSV, AS_TEXT, ASSIGNMENT, BALANCES, BY_FILES, BY_SERVICE, CASES, CLAIM_ID, CLOSING, CUTOFF,
+    ERRORS_ONLY, EXPLAINED, FAIL, FAMILY, FILE, FORMAT, MEMBER, ORDER, OUTPUT, PLAN, RECORD,
+    REMITTANCE, WHOLE, WORKERS,
 };
 use clap::builder::ValueParser;
 use clap::{Arg, ArgAction, ArgGroup};
@@ -29,6 +30,18 @@ pub fn plan_argument<'a>(alloc: Global) -> Arg<'a>
     Arg::new(alloc, PLAN)
         .help("The plan file, TOML")
         .required(true)
+}
+
+/// The flag that checks the tables of a plan together, in place of each table alone.
+pub fn whole_argument<'a>(alloc: Global) -> Result<Arg<'a>, AllocError> {
+    let help = "List the values at which claims pend, over all tables together";
+    flag_argument(alloc, WHOLE, "whole", help).conflicts_with(ERRORS_ONLY)
+}
+
+/// The flag that makes what a check of a whole plan reports an error.
+pub fn fail_argument<'a>(alloc: Global) -> Result<Arg<'a>, AllocError> {
+    let help = "With --whole, exit with status 1 if anything is reported";
+    flag_argument(alloc, FAIL, "fail", help).requires_arg(WHOLE)
 }
 
 /// The values of the plan's inputs, for `value`.
@@ -82,6 +95,15 @@ pub fn order_argument<'a>(alloc: Global, help: &'a str) -> Arg<'a>
         .value_name("ORDER")
         .value_parser(ValueParser::Names(ORDERS.as_slice()))
         .help(help)
+}
+
+/// The file of tests, a required argument.
+pub fn cases_argument<'a>(alloc: Global) -> Arg<'a>
+    ensures needed { result.required ≡ true }
+{
+    Arg::new(alloc, CASES)
+        .help("The file of tests, CSV: a row for each test")
+        .required(true)
 }
 
 /// The remittance that is audited.

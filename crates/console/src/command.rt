@@ -5,16 +5,18 @@ ghost use Rattle.clap.specs.Words.{AddsSubcommand, subcommand_names};
 ghost use Rattle.clap.specs.declared.builder.command.Command.TheViews.{out-Command as fields_of};
 
 use crate::arguments::{
-    assignment_argument, balances_argument, closing_argument, cutoff_argument, explained_argument,
-    explained_group, files_argument, flag_argument, format_argument, order_argument,
-    output_argument, plan_argument, record_argument, remittance_argument, workers_argument,
+    assignment_argument, balances_argument, cases_argument, closing_argument, cutoff_argument,
+    explained_argument, explained_group, fail_argument, files_argument, flag_argument,
+    format_argument, order_argument, output_argument, plan_argument, record_argument,
+    remittance_argument, whole_argument, workers_argument,
 };
 use crate::names::{
     AUDIT, CHECK, CLAIM_ID, ERRORS_ONLY, EXPLAIN, EXPLAIN_RECORD, FAMILY, MEMBER, RUN, STRICT,
-    SUMMARY, VALUE,
+    SUMMARY, TEST, VALUE,
 };
 use crate::texts::{
-    audit_example, check_example, explain_example, run_example, statuses, value_example,
+    audit_example, check_example, explain_example, run_example, statuses, test_example,
+    value_example,
 };
 use clap::{Arg, ArgMatches, Command, Error};
 use std::alloc::{AllocError, Global};
@@ -31,13 +33,14 @@ pub fn matches_of<'a>(
 
 fn command_line<'a>(alloc: Global, workers_limit: usize) -> Result<Command<'a>, AllocError>
     ensures { IfOk result (λ line. subcommand_names line
-        ≡ VALUE.now ∷ CHECK.now ∷ RUN.now ∷ AUDIT.now ∷ EXPLAIN_RECORD.now ∷ []) }
+        ≡ VALUE.now ∷ CHECK.now ∷ RUN.now ∷ AUDIT.now ∷ EXPLAIN_RECORD.now ∷ TEST.now ∷ []) }
 {
     let line = with_command(bare_line(alloc)?, value_command(alloc))?;
     let line = with_command(line, check_command(alloc))?;
     let line = with_command(line, run_command(alloc, workers_limit))?;
     let line = with_command(line, audit_command(alloc))?;
-    with_command(line, explain_command(alloc))
+    let line = with_command(line, explain_command(alloc))?;
+    with_command(line, test_command(alloc))
 }
 
 fn bare_line<'a>(alloc: Global) -> Result<Command<'a>, AllocError>
@@ -84,9 +87,13 @@ fn check_command<'a>(alloc: Global) -> Result<Command<'a>, AllocError>
         "List the gaps (inputs without a rule) and the overlaps (rules that match together)";
     let errors_only = "List only gaps and overlaps that are errors under the table's hit policy";
     let strict = "Report unknown plan keys and exit with status 1";
+    let whole = whole_argument(alloc)?;
+    let fail = fail_argument(alloc)?;
     let arguments = vec![in alloc;
         plan_argument(alloc),
         flag_argument(alloc, ERRORS_ONLY, "harmful", errors_only),
+        whole,
+        fail,
         flag_argument(alloc, STRICT, "strict", strict),
         output_argument(alloc),
     ]?;
@@ -99,7 +106,8 @@ fn run_command<'a>(alloc: Global, workers_limit: usize) -> Result<Command<'a>, A
     let about = "Settle the claims in the providers' files, and write the remittance";
     let order = "Accept the claims file by file, or by day of service";
     let summary = "Print the number of records by status (default on a terminal)";
-    let strict = "Refuse a plan with unknown keys";
+    let strict =
+        "Refuse unknown plan keys, quotes that may hide records, and files whose records are all refused";
     let arguments = vec![in alloc;
         plan_argument(alloc).long("plan"),
         balances_argument(alloc),
@@ -153,6 +161,14 @@ fn explain_command<'a>(alloc: Global) -> Result<Command<'a>, AllocError>
     ]?;
     let group = explained_group(alloc)?;
     command_of(alloc, EXPLAIN_RECORD, about, explain_example(), arguments)?.group(group)
+}
+
+fn test_command<'a>(alloc: Global) -> Result<Command<'a>, AllocError>
+    ensures { IfOk result (λ command. (fields_of command).name.now ≡ TEST.now) }
+{
+    let about = "Test the plan's tables with the rows of a file, and print the rows that differ";
+    let arguments = vec![in alloc; plan_argument(alloc), cases_argument(alloc)]?;
+    command_of(alloc, TEST, about, test_example(), arguments)
 }
 
 fn command_of<'a>(

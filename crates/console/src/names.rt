@@ -15,6 +15,9 @@ pub const AUDIT: &str = "audit";
 /// The command that explains a record of the remittance.
 pub const EXPLAIN_RECORD: &str = "explain";
 
+/// The command that tests a plan with the rows of a file.
+pub const TEST: &str = "test";
+
 /// The plan file of each command.
 pub const PLAN: &str = "PLAN";
 
@@ -41,6 +44,9 @@ pub const BY_SERVICE: &str = "service";
 
 /// The remittance that is audited.
 pub const REMITTANCE: &str = "REMITTANCE";
+
+/// The file of tests.
+pub const CASES: &str = "CASES";
 
 /// The file and the number of the record that is explained.
 pub const RECORD: &str = "RECORD";
@@ -83,6 +89,12 @@ pub const STRICT: &str = "STRICT";
 
 /// The flag that limits a check to violations of a hit policy.
 pub const ERRORS_ONLY: &str = "HARMFUL";
+
+/// The flag for the check of all tables of a plan together.
+pub const WHOLE: &str = "WHOLE";
+
+/// The flag that makes what a check reports an error.
+pub const FAIL: &str = "FAIL";
 
 /// The flag for a summary after a run.
 pub const SUMMARY: &str = "SUMMARY";

@@ -16,7 +16,11 @@ pub fn check_example() -> &'static str {
 A line `gap` gives inputs that no rule of the table covers, with a region for
 each input: <5, 5, ]5..10[ (both ends excluded), >10, not(\"A\") for any other
 text, or - for all values. A line `overlap` gives two rules that can match
-together. A line `wide` names a table with too many regions to list its gaps."
+together. A line `wide` names a table with too many regions to list its gaps.
+
+With --whole, a line `pends` gives a reason why claims pend, as the remittance
+has it, and the values with which they do: a cell for each name that matters.
+Values that no claim can have are left out."
 }
 
 pub fn run_example() -> &'static str {
@@ -63,6 +67,21 @@ balances, the cutoff, the order and the files of the run.
 Each line is a fact: a step, the fact's name and its value. They say what came
 before the claim, what each table reads and answers, each amount, what is left
 after it, and the record of the remittance."
+}
+
+pub fn test_example() -> &'static str {
+    "Example:
+  adjudicate test examples/health_plan.toml examples/health_plan_tests.csv
+
+The first record names the columns. A column with a name that the tables read
+gives its value, as a claim file does. A column with the name of an output
+expects the output's value: 62.5, true, LAB or 2024-07-01. An empty field
+expects nothing. A list has semicolons between its values, and the list
+without values is []. The column `fault` expects a fault, such as norule:3; an
+empty field there, and a file without that column, expect no fault.
+
+There is a line for each difference and for each row that can't be read, and
+the last line has the counts. The exit status is 0 if each row is right."
 }
 
 pub fn statuses() -> &'static str {

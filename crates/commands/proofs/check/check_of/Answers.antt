@@ -1,5 +1,5 @@
-use Rattle.std.proofs.Common.{rules}
 use Rattle.value_command.proofs.Ends.{unjudged_not_done, unjudged_not_refused}
+use Rattle.commands.proofs.WholePlans.{check_done}
 use Rattle.commands.proofs.check.check_of.Goals as goal
 
 pub returns-in-Err-clause-done : goal.returns-in-Err-clause-done
@@ -9,4 +9,5 @@ pub returns-in-Err-clause-refused : goal.returns-in-Err-clause-refused
 returns-in-Err-clause-refused g c = λ is_refused. absurd (unjudged_not_refused _ c.in-Err.ensures.failed is_refused)
 
 pub returns-then-is_strict-clause-done : goal.returns-then-is_strict-clause-done
-returns-then-is_strict-clause-done g c = search rules
+returns-then-is_strict-clause-done g c =
+    λ is_done. check_done _ _ _ _ _ c.in-Ok.ensures.named c.as_slice.ensures.value c.checked_status-status.ensures.done (c.strict_status.ensures is_done)

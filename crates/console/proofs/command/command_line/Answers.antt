@@ -8,4 +8,5 @@ returns c =
     let two = adds_name _ _ _ _ _ one c.check_command.ensures c.in_ok-line-2.ensures in
     let three = adds_name _ _ _ _ _ two c.run_command.ensures c.in_ok-line-3.ensures in
     let four = adds_name _ _ _ _ _ three c.audit_command.ensures c.in_ok-line-4.ensures in
-    IfOk-weaker c.with_command-5.result _ _ (λ m added. adds_name _ _ _ _ _ four c.explain_command.ensures added) c.with_command-5.ensures
+    let five = adds_name _ _ _ _ _ four c.explain_command.ensures c.in_ok-line-5.ensures in
+    IfOk-weaker c.with_command-6.result _ _ (λ m added. adds_name _ _ _ _ _ five c.test_command.ensures added) c.with_command-6.ensures
