@@ -45,12 +45,12 @@ input_needed tables t k place i t_at i_at e =
     (any_at (λ j. reads place j.origin) t.inputs i (among_got t.inputs k i i_at) (ap (reads place) e ∙ eq-eqb place place refl))
 
 -- tests that agree filter alike
-filter_agrees : {X : Type 0} (p q : X → Bool) → ((x : X) → p x ≡ q x) → (xs : List X) → filter p xs ≡ filter q xs
+pub filter_agrees : {X : Type 0} (p q : X → Bool) → ((x : X) → p x ≡ q x) → (xs : List X) → filter p xs ≡ filter q xs
 filter_agrees p q agree [] = refl
 filter_agrees p q agree (x ∷ xs) = ap (λ b. cond b (x ∷ filter p xs) (filter p xs)) (agree x) ∙ ap (λ rest. cond (q x) (x ∷ rest) rest) (filter_agrees p q agree xs)
 
 -- tests that agree on the elements of a list find the same first one
-first_agrees : {X : Type 0} (p q : X → Bool) (xs : List X) → ((k : ℕ) (x : X) → slice_get xs k ≡ Some x → p x ≡ q x) → position_or_len p xs ≡ position_or_len q xs
+pub first_agrees : {X : Type 0} (p q : X → Bool) (xs : List X) → ((k : ℕ) (x : X) → slice_get xs k ≡ Some x → p x ≡ q x) → position_or_len p xs ≡ position_or_len q xs
 first_agrees p q [] agree = refl
 first_agrees p q (x ∷ xs) agree =
     ap (λ b. cond (not b) (1 + position_or_len p xs) 0) (agree 0 x refl)
@@ -73,7 +73,7 @@ module _ (p : PlanParts) (lits : ℕ → List Value) (given : List Slot) (input_
 
   -- a cell holds for what an input reads as in the input class, if the cell's literals are literals
   -- of the column
-  input_asked : (earlier : List (List Answer)) (t : Table) → Among t p.tables → (k : ℕ) (i : Input) → slice_get t.inputs k ≡ Some i → (cell : Cell)
+  pub input_asked : (earlier : List (List Answer)) (t : Table) → Among t p.tables → (k : ℕ) (i : Input) → slice_get t.inputs k ≡ Some i → (cell : Cell)
       → ((l : Value) → Among l (literals cell) → Among l (column_literals t k i.values)) → holds_of (value_read given earlier i.origin) cell ≡ cell_holds_in input_class earlier i.origin cell
   input_asked earlier t t_at k i i_at cell within = by_origin i.origin refl where
     by_origin : (origin : Origin) → i.origin ≡ origin → holds_of (value_read given earlier origin) cell ≡ cell_holds_in input_class earlier origin cell
@@ -90,7 +90,7 @@ module _ (p : PlanParts) (lits : ℕ → List Value) (given : List Slot) (input_
       ap (λ b. b && cells_hold given earlier is cs) (each 0 i c refl refl)
       ∙ ap (λ b. cell_holds_in input_class earlier i.origin c && b) (hold_each earlier is cs (λ k j d j_at d_at. each (suc k) j d j_at d_at))
 
-  rule_asked : (earlier : List (List Answer)) (t : Table) → Among t p.tables → (place : ℕ) → rule_matches given earlier t place ≡ rule_matches_in input_class earlier t place
+  pub rule_asked : (earlier : List (List Answer)) (t : Table) → Among t p.tables → (place : ℕ) → rule_matches given earlier t place ≡ rule_matches_in input_class earlier t place
   rule_asked earlier t t_at place = by_rule (slice_get t.rules place) refl where
     by_rule : (found : Option Rule) → slice_get t.rules place ≡ found → option_map_or (λ r. cells_hold given earlier t.inputs r.cells) found false ≡ option_map_or (λ r. cells_hold_in input_class earlier t.inputs r.cells) found false
     by_rule None e = refl
@@ -99,7 +99,7 @@ module _ (p : PlanParts) (lits : ℕ → List Value) (given : List Slot) (input_
         (λ k i c i_at c_at. input_asked earlier t t_at k i i_at c
         (λ l l_at. among_left l (flat_map (rule_literals k) t.rules) (option_map_or literals i.values []) (literal_of_rule t.rules k r c l (among_got t.rules place r e) c_at l_at)))
 
-  outside_asked : (earlier : List (List Answer)) (t : Table) → Among t p.tables → (k : ℕ) (i : Input) → slice_get t.inputs k ≡ Some i → is_outside given earlier i ≡ is_outside_in input_class earlier i
+  pub outside_asked : (earlier : List (List Answer)) (t : Table) → Among t p.tables → (k : ℕ) (i : Input) → slice_get t.inputs k ≡ Some i → is_outside given earlier i ≡ is_outside_in input_class earlier i
   outside_asked earlier t t_at k i i_at = by_values i.values refl where
     by_values : (values : Option Cell) → i.values ≡ values
         → option_map_or (λ allowed. not (holds_of (value_read given earlier i.origin) allowed)) values false ≡ option_map_or (λ allowed. not (cell_holds_in input_class earlier i.origin allowed)) values false
@@ -108,7 +108,7 @@ module _ (p : PlanParts) (lits : ℕ → List Value) (given : List Slot) (input_
         ap not (input_asked earlier t t_at k i i_at allowed
         (λ l l_at. among_right l (flat_map (rule_literals k) t.rules) (option_map_or literals i.values []) (subst (λ vs. Among l (option_map_or literals vs [])) (sym e) l_at)))
 
-  table_asked : (earlier : List (List Answer)) (t : Table) → Among t p.tables → table_value given earlier t ≡ table_value_in input_class earlier t
+  pub table_asked : (earlier : List (List Answer)) (t : Table) → Among t p.tables → table_value given earlier t ≡ table_value_in input_class earlier t
   table_asked earlier t t_at =
       let n = number_after earlier in
       let first : first_outside given earlier t ≡ first_outside_in input_class earlier t =
@@ -119,7 +119,7 @@ module _ (p : PlanParts) (lits : ℕ → List Value) (given : List Slot) (input_
       ap (λ o. inside o n (by_hit t.hit n t (matching given earlier t))) first ∙ ap (λ rs. inside (first_outside_in input_class earlier t) n (by_hit t.hit n t rs)) rules
 
 -- tables that agree one by one agree together
-tables_asked : (given : List Slot) (input_class : Zone) (tables : List Table) → ((t : Table) (earlier : List (List Answer)) → Among t tables → table_value given earlier t ≡ table_value_in input_class earlier t)
+pub tables_asked : (given : List Slot) (input_class : Zone) (tables : List Table) → ((t : Table) (earlier : List (List Answer)) → Among t tables → table_value given earlier t ≡ table_value_in input_class earlier t)
     → (earlier : List (List Answer)) → answers_of given earlier tables ≡ answers_in input_class earlier tables
 tables_asked given input_class [] each earlier = refl
 tables_asked given input_class (t ∷ ts) each earlier =

@@ -53,6 +53,7 @@ mod violation_law;
 mod violations;
 
 pub use cut_plan::{CutPlan, compile};
+pub use cuts::{add_cell, add_tables};
 pub use fault::CheckFault;
 pub use gap::{CELL_LIMIT, cell_count};
 pub use law::{
@@ -63,8 +64,9 @@ pub use law::{
 };
 pub use mask::RuleMask;
 pub use partition::Partition;
-pub use region::{Region, holds_in};
-pub use regions_from_cuts::has_value;
+pub use region::{Region, holds_in, least_like, next};
+pub use regions_from_cuts::{has_value, regions_between};
+pub use sorted_cuts::sort_cuts;
 pub use table_check::{TableCheck, check_table};
 pub use violation_law::errors_are_faults;
 pub use violations::{gap_is_error, overlap_is_error};
