@@ -1,5 +1,5 @@
 -- The values that the fields of a row give, column by column.
-use Rattle.std.proofs.Common.{◌≡◌, ◌≢◌, ◌<◌, ◌+◌, ℕ, zero, suc, Bool, true, List, [], ◌∷◌, length, Option, Some, None, is_some, get_or, slice_get, inl, inr, refl, sym, ap, subst, ◌∙◌, below_more, arith}
+use Rattle.std.proofs.Common.{◌≡◌, ◌≢◌, ◌<◌, ◌+◌, ◌&&◌, ◌||◌, ℕ, zero, suc, Bool, true, List, [], ◌∷◌, length, Option, Some, None, is_some, get_or, slice_get, inl, inr, refl, sym, ap, subst, ◌∙◌, below_more, arith}
 use Rattle.std.specs.Option.{option_map, option_and_then}
 use Rattle.std.proofs.lemmas.Bool.{cases_eq}
 use Rattle.std.proofs.lemmas.Option.{none-some, same_Some, slice_get-get_or}
@@ -15,7 +15,7 @@ use Rattle.evaluation.proofs.Givens.{Gives-none}
 use Rattle.plan_checks.specs.declared.columns.Column.{Column}
 use Rattle.plan_checks.specs.declared.columns.Use.{Use}
 use Rattle.plan_checks.specs.declared.columns.Use.TheVariants.{Given}
-use Rattle.plan_checks.specs.Columns.{AreApart, GivesNeeded, IsGivenBy, gives_place}
+use Rattle.plan_checks.specs.Columns.{AreApart, GivesNeeded, IsGivenBy, gives_place, is_of_claim, settles}
 use Rattle.plan_checks.specs.Given.{GivesBelow, GivesRow, IsReadAt, IsUnreadAt, IsUnreadField, IsValueAt}
 use Rattle.plan_checks.proofs.HeaderColumns.{given_at}
 use Rattle.plan_checks.proofs.RowLists.{set_same, set_other}
@@ -113,7 +113,7 @@ gives_next end names columns fields given place kind value apart before by is of
 -- the values of a row suffice for the tables
 pub row_is_ready : (plan : PlanParts) (columns : List Column) (fields : Fields) (given : List Slot) → GivesNeeded plan columns → GivesRow plan.names columns fields given → IsReady plan.tables given
 row_is_ready plan columns fields given needed gives = λ place read.
-    let at = given_at columns place (needed place read) in
+    let at = given_at columns place (needed place (ap (λ b. b || (settles plan columns && is_of_claim plan place)) read)) in
     let value = gives.each at.column place at.within at.by in
     ap is_some value.found
 

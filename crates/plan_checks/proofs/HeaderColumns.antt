@@ -1,9 +1,10 @@
 -- The columns of a header, one after another.
-use Rattle.std.proofs.Common.{◌≡◌, ◌≢◌, ◌<◌, ◌≤◌, ◌+◌, ◌⊎◌, inl, inr, ℕ, zero, suc, Bool, true, false, cond, ◌==◌, List, [], ◌∷◌, ◌++◌, length, take, drop, get_or, Option, Some, None, IsSome, slice_get, refl, sym, ap, subst, ◌∙◌, arith}
+use Rattle.std.proofs.Common.{◌≡◌, ◌≢◌, ◌<◌, ◌≤◌, ◌+◌, ◌⊎◌, inl, inr, ℕ, zero, suc, Bool, true, false, cond, ◌==◌, List, [], ◌∷◌, ◌++◌, length, nat_lt, take, drop, get_or, Option, Some, None, IsSome, IsTrue, slice_get, refl, sym, ap, subst, ◌∙◌, arith}
+use Rattle.std.specs.Prelude.{find}
 use Rattle.std.specs.List.{AllZip, list_any, position}
 use Rattle.std.specs.Option.{option_map}
 use Rattle.std.specs.Str.{bytes_eq}
-use Rattle.std.proofs.lemmas.Bool.{false≢true, cases_Bool}
+use Rattle.std.proofs.lemmas.Bool.{false≢true, and_parts, cases_Bool, ltb-true}
 use Rattle.std.proofs.lemmas.Bool.Decides.{Decides-eqb}
 use Rattle.std.proofs.Math.Seq.{take-length}
 use Rattle.std.proofs.lemmas.List.{length-take-le, take-append-drop, take_more}
@@ -13,25 +14,42 @@ use Rattle.csv.specs.Records.{field_at}
 use Rattle.intake_csv.specs.Records.{Fields}
 use Rattle.intake_csv.proofs.Lists.{AllZip-grow, field_at-append, field_at-get_or, field_at-within}
 use Rattle.tables.specs.declared.table.InputData.{InputData}
-use Rattle.tables.specs.declared.table.Table.{Table}
+use Rattle.tables.specs.declared.roles.Roles.{Roles}
 use Rattle.tables.specs.Environment.{or_else}
-use Rattle.tables.specs.Plan.{PlanParts}
+use Rattle.tables.specs.Inputs.{needs}
+use Rattle.tables.specs.Plan.{IsPlan, PlanParts}
+use Rattle.tables.proofs.NeededNames.{within_names}
 use Rattle.plan_checks.specs.declared.columns.Column.{Column}
 use Rattle.plan_checks.specs.declared.columns.Use.{Use}
-use Rattle.plan_checks.specs.declared.columns.Use.TheVariants.{Given, Expected, Fault}
-use Rattle.plan_checks.specs.Columns.{AreApart, AreColumns, AreOfNames, IsColumn, IsColumnAt, IsGivenBy, IsUnknownAt, expected_use, fault_word, gives, gives_place, is_output, is_repeated, use_of}
+use Rattle.plan_checks.specs.declared.columns.Use.TheVariants.{Given, Expected, Settled, Fault}
+use Rattle.plan_checks.specs.declared.part.Part.{Part}
+use Rattle.plan_checks.specs.Parts.{is_part_name, parts}
+use Rattle.plan_checks.specs.Columns.{AreApart, AreColumns, AreOfNames, IsColumn, IsColumnAt, IsGivenBy, IsUnknownAt, expected_use, fault_use, fault_word, gives, gives_place, is_needed, is_of_claim, is_output, is_repeated, settled_use, settles, use_of}
+use Rattle.plan_checks.specs.Filing.{first_accumulator, member_place}
 use Rattle.plan_checks.specs.Stop.{IsRepeatedColumn, IsUnknownColumn}
 use Rattle.plan_checks.proofs.RowLists.{some_passes, none_passes}
 
+fault_gives_none : (name : List ℕ) (place : ℕ) → fault_use name ≢ Some (Given place)
+fault_gives_none name place is =
+    elim (cases_Bool (bytes_eq name fault_word)) [
+      | inl fault ↦ absurd (cc (rw fault at is))
+      | inr other ↦ absurd (cc (rw other at is))
+    ]
+
+-- a column that expects a part of a settlement gives no value
+settled_gives_none : (roles : Option Roles) (name : List ℕ) (rest : Option Use) (place : ℕ) → rest ≢ Some (Given place) → or_else (settled_use roles name) rest ≢ Some (Given place)
+settled_gives_none None name rest place none is = none is
+settled_gives_none (Some roles) name rest place none is = by (find (λ part. is_part_name part name) parts) is where
+  by : (found : Option Part) → or_else (option_map Settled found) rest ≡ Some (Given place) → ⊥
+  by None same = none same
+  by (Some part) same = absurd (cc same)
+
 -- a column that is not for a name of the plan gives no value
-expected_gives_none : (tables : List Table) (name : List ℕ) (place : ℕ) → expected_use tables name ≢ Some (Given place)
-expected_gives_none tables name place is =
-    elim (cases_Bool (is_output tables name)) [
+expected_gives_none : (plan : PlanParts) (name : List ℕ) (place : ℕ) → expected_use plan name ≢ Some (Given place)
+expected_gives_none plan name place is =
+    elim (cases_Bool (is_output plan.tables name)) [
       | inl output ↦ absurd (cc (rw output at is))
-      | inr none ↦ elim (cases_Bool (bytes_eq name fault_word)) [
-        | inl fault ↦ absurd (cc (rw (none, fault) at is))
-        | inr other ↦ absurd (cc (rw (none, other) at is))
-      ]
+      | inr none ↦ settled_gives_none plan.roles name (fault_use name) place (fault_gives_none name place) (rw none at is)
     ]
 
 first_given : (found : Option ℕ) (rest : Option Use) (place : ℕ) → rest ≢ Some (Given place) → or_else (option_map Given found) rest ≡ Some (Given place) → found ≡ Some place
@@ -42,7 +60,7 @@ first_given (Some other) rest place none is = let same : other ≡ place = cc is
 pub given_name : (plan : PlanParts) (name : List ℕ) (place : ℕ) → use_of plan name ≡ Some (Given place) → IsSome (slice_get plan.names place)
 given_name plan name place is =
     let test : InputData → Bool = λ d. bytes_eq d.name name in
-    let found : position test plan.names ≡ Some place = first_given (position test plan.names) (expected_use plan.tables name) place (expected_gives_none plan.tables name place) is in
+    let found : position test plan.names ≡ Some place = first_given (position test plan.names) (expected_use plan name) place (expected_gives_none plan name place) is in
     within_some plan.names test place found where
       some_at : {A : Type 0} (xs : List A) (i : ℕ) → i < length xs → IsSome (slice_get xs i)
       some_at [] i within = absurd (omega (arith, within))
@@ -102,6 +120,7 @@ gives_by (c ∷ cs) (suc column) place none given =
 fresh_place : (columns : List Column) (used : Use) (place column : ℕ) → is_repeated columns used ≡ false → used ≡ Given place → ¬ IsGivenBy columns column place
 fresh_place columns (Given p) place column fresh is = let same : p ≡ place = cc is in gives_by columns column place (subst (λ q. gives columns q ≡ false) same fresh)
 fresh_place columns Expected place column fresh is = absurd (cc is)
+fresh_place columns (Settled part) place column fresh is = absurd (cc is)
 fresh_place columns Fault place column fresh is = absurd (cc is)
 
 -- one more column that gives no name again
@@ -127,6 +146,7 @@ names_more header place name present =
 given_use : (used : Use) (place : ℕ) → gives_place place used ≡ true → used ≡ Given place
 given_use (Given other) place same = ap Given ((Decides-eqb other place).0 same)
 given_use Expected place same = absurd (false≢true same)
+given_use (Settled part) place same = absurd (false≢true same)
 given_use Fault place same = absurd (false≢true same)
 
 -- a column that gives the name at an index
@@ -144,6 +164,7 @@ given_at columns place some =
 pub repeated_at : (columns : List Column) (used : Use) → is_repeated columns used ≡ true → (place : ℕ) × (used ≡ Given place) × GivenAt columns place
 repeated_at columns (Given place) repeated = (place, refl, given_at columns place repeated)
 repeated_at columns Expected repeated = absurd (false≢true repeated)
+repeated_at columns (Settled part) repeated = absurd (false≢true repeated)
 repeated_at columns Fault repeated = absurd (false≢true repeated)
 
 -- the columns of one more name
@@ -183,3 +204,17 @@ repeated_column plan header place columns column within each at again =
       gives = at.used ∙ ap Some r.1;
       same = by.used;
     }
+
+-- a name that is needed is one of the plan's names
+pub needed_within : (plan : PlanParts) (columns : List Column) (place : ℕ) → IsPlan plan → IsTrue (is_needed plan columns place) → place < length plan.names
+needed_within plan columns place sound needed =
+    elim (cases_Bool (needs plan.tables place)) [
+      | inl read ↦ within_names plan place sound read
+      | inr unread ↦
+          let both = and_parts (settles plan columns) (is_of_claim plan place) (rw unread at needed) in
+          let bounds = and_parts (nat_lt (member_place plan) place) (nat_lt place (first_accumulator plan)) both.1 in
+          let below = ltb-true place (first_accumulator plan) bounds.1 in
+          omega (arith, below, accumulators_within plan)
+    ] where
+      accumulators_within : (p : PlanParts) → first_accumulator p ≤ length p.names
+      accumulators_within p = omega arith

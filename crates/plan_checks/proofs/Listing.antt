@@ -105,7 +105,7 @@ refusal_of p limit NoRoles is = is
 refusal_of p limit (InputRole role) is = is
 refusal_of p limit OutOfMemory is = tt
 
-env_by : (p : PlanParts) (given : List Slot) (answers : Result (List (List Answer)) Fault) → answers_of given [] p.tables ≡ answers → env p given ≡ environment_by p.tables answers
+pub env_by : (p : PlanParts) (given : List Slot) (answers : Result (List (List Answer)) Fault) → answers_of given [] p.tables ≡ answers → env p given ≡ environment_by p.tables answers
 env_by p given (Ok answers) is = cc
 env_by p given (Err fault) is = cc
 
@@ -209,7 +209,7 @@ examples_of p (b ∷ bs) held =
     )
 
 -- a zone of each box, if what is listed is a zone
-zones_held : {X : Type 0} (outcomes : List X) (regions : List (List Region)) (boxes : List ZoneBox) → ((zone : List ℕ) (outcome : X) → IsListed outcomes boxes zone outcome → IsZone regions zone)
+pub zones_held : {X : Type 0} (outcomes : List X) (regions : List (List Region)) (boxes : List ZoneBox) → ((zone : List ℕ) (outcome : X) → IsListed outcomes boxes zone outcome → IsZone regions zone)
     → AllByRecursion (λ b. b.outcome < length outcomes) boxes → AllByRecursion (λ b. (zone : List ℕ) × IsInside b.sides zone) boxes
     → AllByRecursion (λ b. (zone : List ℕ) × IsZone regions zone × IsInside b.sides zone) boxes
 zones_held outcomes regions [] zones known held = tt
@@ -220,9 +220,12 @@ zones_held outcomes regions (b ∷ bs) zones known held =
       zones_held outcomes regions bs (λ other outcome at. zones other outcome (inr at)) known.1 held.1,
     )
 
--- each box contains possible values
+-- each box contains possible values, whatever its outcome is
+pub values_of_boxes : {X : Type 0} (p : PlanParts) (outcomes : List X) (HasOutcome : List ℕ → Option X → Type 0) (boxes : List ZoneBox) → AreBoxesOf outcomes HasOutcome (plan_regions p) boxes → HoldValues p boxes
+values_of_boxes p outcomes HasOutcome boxes are = examples_of p boxes (zones_held outcomes (plan_regions p) boxes (λ zone outcome at. (are.right zone outcome at).0) are.known are.held)
+
 pub hold_values : (p : PlanParts) (reasons : List Reason) (boxes : List ZoneBox) → AreBoxesOf reasons (HasReason p (plan_regions p)) (plan_regions p) boxes → HoldValues p boxes
-hold_values p reasons boxes are = examples_of p boxes (zones_held reasons (plan_regions p) boxes (λ zone reason at. (are.right zone reason at).0) are.known are.held)
+hold_values p reasons boxes are = values_of_boxes p reasons (HasReason p (plan_regions p)) boxes are
 
 -- boxes over regions that are those of the plan
 pub boxes_of_plan : (p : PlanParts) (one other : List (List Region)) (reasons : List Reason) (boxes : List ZoneBox) → one ≡ plan_regions p → other ≡ plan_regions p

@@ -39,7 +39,7 @@ abbrev pub Possible : PlanParts → ℕ → ℕ → List Value → Type 0
 Possible p a n values = AllZip (Fits p) (range_with_len a n) values
 
 -- a region among those that a count finds
-counted_one : (q : Region → Bool) (n : ℕ) (xs : List Region) → count_by q xs ≡ suc n → (r : Region) × Among r xs × (q r ≡ true)
+pub counted_one : (q : Region → Bool) (n : ℕ) (xs : List Region) → count_by q xs ≡ suc n → (r : Region) × Among r xs × (q r ≡ true)
 counted_one q n [] e = absurd (omega (arith, e))
 counted_one q n (x ∷ xs) e =
     elim (q x) as (λ b. q x ≡ b → (r : Region) × Among r (x ∷ xs) × (q r ≡ true)) [
@@ -48,12 +48,12 @@ counted_one q n (x ∷ xs) e =
     ] refl
 
 -- the index of a region that contains the value
-record Indexed (rs : List Region) (v : Value) : Type 0 where
-  index : ℕ
-  below : index < length rs
-  inside : has_at rs index v ≡ true
+pub record Indexed (rs : List Region) (v : Value) : Type 0 where
+  pub index : ℕ
+  pub below : index < length rs
+  pub inside : has_at rs index v ≡ true
 
-indexed : (rs : List Region) (r : Region) (v : Value) → Among r rs → is_in r v ≡ true → Indexed rs v
+pub indexed : (rs : List Region) (r : Region) (v : Value) → Among r rs → is_in r v ≡ true → Indexed rs v
 indexed [] r v at inside = absurd at
 indexed (x ∷ xs) r v (inl same) inside = record { index = 0; below = omega arith; inside = subst (λ y. is_in y v ≡ true) (sym same) inside }
 indexed (x ∷ xs) r v (inr more) inside =
@@ -61,7 +61,7 @@ indexed (x ∷ xs) r v (inr more) inside =
     record { index = suc rest.index; below = (let b = rest.below in omega (arith, b)); inside = rest.inside }
 
 -- a region with a possible value is kept
-possible_region : (kind : Kind) (index : Bool) (cuts : List Value) (r : Region) (v : Value) → Among r (stretches kind cuts) → has_value r ≡ true → is_value kind v ≡ true
+pub possible_region : (kind : Kind) (index : Bool) (cuts : List Value) (r : Region) (v : Value) → Among r (stretches kind cuts) → has_value r ≡ true → is_value kind v ≡ true
     → (not (same_kind kind kinds.Number && index) || is_money_value v) ≡ true → is_in r v ≡ true → is_possible_region (same_kind kind kinds.Number && index) r ≡ true
 possible_region kinds.Number true cuts r v at valued value money inside = and_from (has_value r) (has_money r) valued (has_money_from r v (ordered cuts r at) value money inside)
 possible_region kinds.Number false cuts r v at valued value money inside = and_from (has_value r) true valued refl
@@ -76,19 +76,19 @@ pub record Zoned (regions : List (List Region)) (values : List Value) : Type 0 w
   pub lie : LieIn regions zone values
 
 -- a value of a kind, and an amount of money if it is to be one
-record Chosen (kind : Kind) (index : Bool) (r : Region) : Type 0 where
-  value : Value
-  fits : (is_value kind value && (not (same_kind kind kinds.Number && index) || is_money_value value)) ≡ true
-  inside : is_in r value ≡ true
+pub record Chosen (kind : Kind) (index : Bool) (r : Region) : Type 0 where
+  pub value : Value
+  pub fits : (is_value kind value && (not (same_kind kind kinds.Number && index) || is_money_value value)) ≡ true
+  pub inside : is_in r value ≡ true
 
-any_value : (kind : Kind) (index : Bool) → Chosen kind index Every
+pub any_value : (kind : Kind) (index : Bool) → Chosen kind index Every
 any_value kinds.Number true = let h = money_in Every refl refl in record { value = h.amount; fits = and_from (is_value kinds.Number h.amount) (is_money_value h.amount) h.value h.money; inside = refl }
 any_value kinds.Number false = let h = holder kinds.Number [] Every (inl refl) refl in record { value = h.held; fits = and_from (is_value kinds.Number h.held) true h.value refl; inside = refl }
 any_value kinds.Text index = let h = holder kinds.Text [] Every (inl refl) refl in record { value = h.held; fits = and_from (is_value kinds.Text h.held) true h.value refl; inside = refl }
 any_value kinds.Flag index = record { value = Flag true; fits = refl; inside = refl }
 any_value kinds.Day index = let h = holder kinds.Day [] Every (inl refl) refl in record { value = h.held; fits = and_from (is_value kinds.Day h.held) true h.value refl; inside = refl }
 
-chosen : (kind : Kind) (index : Bool) (lits : List Value) (r : Region) → Among r (stretches kind (sort_values (filter (has_kind kind) lits))) → is_possible_region (same_kind kind kinds.Number && index) r ≡ true
+pub chosen : (kind : Kind) (index : Bool) (lits : List Value) (r : Region) → Among r (stretches kind (sort_values (filter (has_kind kind) lits))) → is_possible_region (same_kind kind kinds.Number && index) r ≡ true
     → Chosen kind index r
 chosen kinds.Number true lits r at kept =
     let both = and_parts (has_value r) (has_money r) kept in

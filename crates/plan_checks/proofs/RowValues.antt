@@ -1,5 +1,5 @@
 -- Fields that denote values.
-use Rattle.std.proofs.Common.{◌≡◌, ◌≢◌, ◌<◌, ◌+◌, ◌↔◌, ◌⊎◌, inl, inr, ℕ, zero, suc, Bool, List, [], ◌∷◌, ◌++◌, length, take, get_or, Some, Result, IfOk, IsTrue, refl, ap, subst, ◌∙◌, arith}
+use Rattle.std.proofs.Common.{◌≡◌, ◌≢◌, ◌<◌, ◌+◌, ◌↔◌, ◌⊎◌, inl, inr, ℕ, zero, suc, Bool, List, [], ◌∷◌, ◌++◌, length, take, get_or, Some, Result, IfOk, IsTrue, refl, sym, ap, subst, ◌∙◌, arith}
 use Rattle.std.specs.List.{AllZip}
 use Rattle.std.specs.Option.{IsSomeAnd}
 use Rattle.std.specs.declared.alloc.AllocError.{AllocError}
@@ -8,8 +8,12 @@ use Rattle.std.proofs.lemmas.List.{take_more}
 use Rattle.feel_tests.specs.declared.value.Value.{Value}
 use Rattle.intake_csv.proofs.Lists.{AllZip-grow}
 use Rattle.tables.specs.declared.environment.Answer.{Answer}
+use Rattle.plan_checks.specs.declared.columns.Column.{Column}
+use Rattle.plan_checks.specs.declared.columns.Use.{Use}
+use Rattle.plan_checks.specs.declared.columns.Use.TheVariants.{Given, Fault}
+use Rattle.plan_checks.specs.declared.finding.Finding.{Finding}
 use Rattle.plan_checks.specs.Expected.{Denotes, HasAnswer}
-use Rattle.plan_checks.specs.Lines.{IsAnswerExpected, Outcome, answered}
+use Rattle.plan_checks.specs.Lines.{IsFound, IsMet, IsOptional, TablesValue, answered, found_fault}
 
 -- the text at an index denotes the value at the index
 zip_at : (texts : List (List ℕ)) (values : List Value) (place : ℕ) (value : Value) → AllZip Denotes texts values → place < length texts → Denotes (get_or texts place []) (get_or values place value)
@@ -41,15 +45,43 @@ lengths_differ [] (v ∷ vs) other all = absurd all
 lengths_differ (t ∷ ts) [] other all = absurd all
 lengths_differ (t ∷ ts) (v ∷ vs) other all = lengths_differ ts vs (λ same. other (ap suc same)) all.1
 
--- a field that is not empty has an expectation exactly if the answer does
-pub answer_expected : (field : List ℕ) (P : Type 0) (met : Bool) → field ≢ [] → (IsTrue met ↔ P) → IsTrue met ↔ ((field ≡ []) ⊎ P)
-answer_expected field P met some same = (λ is. inr (same.0 is), λ expected. by expected) where
-  by : (field ≡ []) ⊎ P → IsTrue met
-  by (inl empty) = absurd (some empty)
+-- a field that is not empty expects something
+pub expected_so : (field : List ℕ) (Q P : Type 0) (met : Bool) → field ≢ [] → (IsTrue met ↔ P) → IsTrue met ↔ (((field ≡ []) × Q) ⊎ P)
+expected_so field Q P met some same = (λ is. inr (same.0 is), λ expected. by expected) where
+  by : ((field ≡ []) × Q) ⊎ P → IsTrue met
+  by (inl empty) = absurd (some empty.0)
+  by (inr p) = same.1 p
+
+-- an expectation that is not optional
+pub always_expected : (field : List ℕ) (P : Type 0) (met : Bool) → (IsTrue met ↔ P) → IsTrue met ↔ (((field ≡ []) × ⊥) ⊎ P)
+always_expected field P met same = (λ is. inr (same.0 is), λ expected. by expected) where
+  by : ((field ≡ []) × ⊥) ⊎ P → IsTrue met
+  by (inl never) = absurd never.1
   by (inr p) = same.1 p
 
 -- a read answer is compared with the field's
-pub answered_by : (r : Result Bool AllocError) (outcome : Outcome) (name field : List ℕ) (answer : Answer) → field ≢ [] → Some answer ≡ answered outcome name
-    → IfOk r (λ met. IsTrue met ↔ HasAnswer field answer) → IfOk r (λ met. IsTrue met ↔ IsAnswerExpected outcome name field)
-answered_by r outcome name field answer some there says =
-    IfOk-weaker r _ _ (λ met same. answer_expected field _ met some (subst (λ found. IsTrue met ↔ IsSomeAnd found (HasAnswer field)) there same)) says
+pub answered_by : (r : Result Bool AllocError) (tables : TablesValue) (name field : List ℕ) (answer : Answer) → Some answer ≡ answered tables name
+    → IfOk r (λ met. IsTrue met ↔ HasAnswer field answer) → IfOk r (λ met. IsTrue met ↔ IsSomeAnd (answered tables name) (HasAnswer field))
+answered_by r tables name field answer there says =
+    IfOk-weaker r _ _ (λ met same. subst (λ found. IsTrue met ↔ IsSomeAnd found (HasAnswer field)) there same) says
+
+-- the expectation of a column for this use
+pub met_if : (finding : Finding) (column : Column) (field : List ℕ) (used : Use) → column.used ≡ used → IsOptional used → field ≡ [] → IsMet finding column field
+met_if finding column field used is optional empty = inl (empty, subst IsOptional (sym is) optional)
+
+pub met_given : (finding : Finding) (column : Column) (field : List ℕ) (place : ℕ) → column.used ≡ Given place → IsMet finding column field
+met_given finding column field place is = inr (subst (λ u. IsFound u finding column.name.now field) (sym is) tt)
+
+pub met_so : (r : Result Bool AllocError) (finding : Finding) (column : Column) (field : List ℕ) (used : Use) → column.used ≡ used → field ≢ []
+    → IfOk r (λ met. IsTrue met ↔ IsFound used finding column.name.now field) → IfOk r (λ met. IsTrue met ↔ IsMet finding column field)
+met_so r finding column field used is some says =
+    IfOk-weaker r _ _
+    (λ met same. subst (λ u. IsTrue met ↔ (((field ≡ []) × IsOptional u) ⊎ IsFound u finding column.name.now field)) (sym is)
+    (expected_so field (IsOptional used) (IsFound used finding column.name.now field) met some same)) says
+
+pub met_fault : (r : Result Bool AllocError) (finding : Finding) (column : Column) (field : List ℕ) → column.used ≡ Fault
+    → IfOk r (λ met. IsTrue met ↔ (field ≡ found_fault finding)) → IfOk r (λ met. IsTrue met ↔ IsMet finding column field)
+met_fault r finding column field is says =
+    IfOk-weaker r _ _
+    (λ met same. subst (λ u. IsTrue met ↔ (((field ≡ []) × IsOptional u) ⊎ IsFound u finding column.name.now field)) (sym is)
+    (always_expected field (field ≡ found_fault finding) met same)) says

@@ -1,30 +1,32 @@
 -- The texts of fields and rows, one after another.
-use Rattle.std.proofs.Common.{◌≡◌, ◌≢◌, ◌<◌, ◌≤◌, ◌+◌, ◌⊎◌, inl, inr, ℕ, zero, suc, Bool, true, false, cond, List, [], ◌∷◌, ◌++◌, codes, length, map, take, get_or, Some, Ok, Err, refl, sym, ap, subst, ◌∙◌, arith}
+use Rattle.std.proofs.Common.{◌≡◌, ◌≢◌, ◌<◌, ◌≤◌, ◌+◌, ◌⊎◌, inl, inr, ℕ, zero, suc, Bool, true, false, cond, List, [], ◌∷◌, ◌++◌, ◌||◌, length, map, take, get_or, slice_get, Some, refl, sym, ap, subst, ◌∙◌, below_more, arith}
 use Rattle.std.specs.List.{AllZip, count_by, list_all}
 use Rattle.std.proofs.lemmas.Bool.{and_parts, cases_Bool}
 use Rattle.std.proofs.Math.Seq.{take-length}
+use Rattle.std.proofs.lemmas.Option.{none-some, same_Some, slice_get-get_or}
 use Rattle.std.proofs.lemmas.List.{append-nil, append_assoc, length-map, length-take-le, length_push, map_push, take_more}
 use Rattle.std.proofs.lemmas.List.Sums.{count_by-le-length, sum_by-cons, sum_by_push}
 use Rattle.intake_csv.specs.Records.{Fields}
 use Rattle.csv.specs.Records.{Row, field_at, fields_of}
 use Rattle.tables.specs.declared.inputs.Slot.{Slot}
-use Rattle.tables.specs.Environment.{env}
 use Rattle.tables.specs.Plan.{PlanParts}
 use Rattle.plan_checks.specs.declared.columns.Column.{Column}
+use Rattle.plan_checks.specs.declared.finding.Finding.{Finding}
 use Rattle.plan_checks.specs.declared.judging.Judged.{Judged}
 use Rattle.plan_checks.specs.declared.judging.Judgement.{Judgement}
 use Rattle.plan_checks.specs.declared.judging.Judgement.TheVariants.{Right, Wrong}
 use Rattle.plan_checks.specs.declared.report.Counts.{Counts}
 use Rattle.plan_checks.specs.declared.testing.Tested.TheVariants.{AllRight, Differing}
-use Rattle.plan_checks.specs.Lines.{AreFieldTexts, IsFieldText, IsMet, IsRowText, MeetsRow, Outcome, difference_line, fault_line, found_fault, found_text, named_text, shown, unexpected_line}
-use Rattle.plan_checks.specs.Report.{AreJudged, HasValues, IsJudged, IsRefusedBy, IsUnreadIn, counts_of, is_refused, is_right, is_wrong, tested_of, width_line}
-use Rattle.plan_checks.specs.Given.{IsUnreadAt}
+use Rattle.plan_checks.specs.Columns.{settles}
+use Rattle.plan_checks.specs.Filing.{IsUnfit}
+use Rattle.plan_checks.specs.Lines.{AreFieldTexts, IsFieldText, IsMet, IsRowText, MeetsRow, difference_line, expects_faults, fault_line, found_fault, found_text, is_for_faults, shown, unexpected_line}
+use Rattle.plan_checks.specs.Report.{AreJudged, HasValues, IsBadField, IsFindingOf, IsJudged, IsRefusedBy, IsUnfitIn, IsUnreadIn, counts_of, is_refused, is_right, is_wrong, tested_of, width_line}
 use Rattle.plan_checks.proofs.HeaderColumns.{names_more}
 
-module _ (number : ℕ) (outcome : Outcome) where
+module _ (number : ℕ) (finding : Finding) where
   -- the text for one more field
-  pub field_texts_pushed : (columns : List Column) (fields : Fields) (text : List ℕ) (column : Column) (field line : List ℕ) → AreFieldTexts number outcome columns fields text
-      → IsFieldText number outcome column field line → AreFieldTexts number outcome (columns ++ column ∷ []) (fields ++ field ∷ []) (text ++ line)
+  pub field_texts_pushed : (columns : List Column) (fields : Fields) (text : List ℕ) (column : Column) (field line : List ℕ) → AreFieldTexts number finding columns fields text
+      → IsFieldText number finding column field line → AreFieldTexts number finding (columns ++ column ∷ []) (fields ++ field ∷ []) (text ++ line)
   field_texts_pushed [] [] text column field line before next = (line, [], next, refl, ap (λ t. t ++ line) before ∙ sym (append-nil line))
   field_texts_pushed [] (f ∷ fs) text column field line before next = absurd before
   field_texts_pushed (c ∷ cs) [] text column field line before next = absurd before
@@ -42,12 +44,12 @@ module _ (number : ℕ) (outcome : Outcome) where
   empty_parts (f ∷ fs) back e = absurd (cc e)
 
   -- a difference has a line
-  met_if_empty : (column : Column) (field line : List ℕ) → IsFieldText number outcome column field line → line ≡ [] → IsMet outcome column field
+  met_if_empty : (column : Column) (field line : List ℕ) → IsFieldText number finding column field line → line ≡ [] → IsMet finding column field
   met_if_empty column field line (inl met) none = met.0
   met_if_empty column field line (inr differs) none = absurd (cc (sym differs.1 ∙ none))
 
   -- each expectation is met if there is no line
-  pub all_met : (columns : List Column) (fields : Fields) (text : List ℕ) → AreFieldTexts number outcome columns fields text → text ≡ [] → AllZip (IsMet outcome) columns fields
+  pub all_met : (columns : List Column) (fields : Fields) (text : List ℕ) → AreFieldTexts number finding columns fields text → text ≡ [] → AllZip (IsMet finding) columns fields
   all_met [] [] text texts none = tt
   all_met [] (f ∷ fs) text texts none = absurd texts
   all_met (c ∷ cs) [] text texts none = absurd texts
@@ -106,40 +108,49 @@ all_counted test (x ∷ xs) all =
     let more : 1 + count_by test xs ≡ suc (length xs) = omega (arith, rest) in
     sum_by-cons (λ y. cond (test y) 1 0) x xs ∙ ap (λ b. cond b 1 0 + count_by test xs) both.0 ∙ more
 
-pub tested_right : (judgements : List Judgement) (counts : Counts) → counts ≡ counts_of judgements → counts.right ≡ counts.rows → tested_of judgements ≡ AllRight
-tested_right judgements counts is same =
-    let all : list_all is_right judgements ≡ true = counted_all is_right judgements (sym (ap (λ (c : Counts). c.right) is) ∙ same ∙ ap (λ (c : Counts). c.rows) is) in
+-- without rows there are no judgements
+pub tested_none : (judgements : List Judgement) (counts : Counts) → counts ≡ counts_of judgements → counts.rows ≡ 0 → tested_of judgements ≡ Differing
+tested_none [] counts is none = refl
+tested_none (j ∷ js) counts is none = absurd (cc (sym none ∙ ap (λ (c : Counts). c.rows) is))
+
+pub tested_right : (judgements : List Judgement) (counts : Counts) → counts ≡ counts_of judgements → counts.rows ≢ 0 → counts.right ≡ counts.rows → tested_of judgements ≡ AllRight
+tested_right [] counts is some same = absurd (some (ap (λ (c : Counts). c.rows) is))
+tested_right (j ∷ js) counts is some same =
+    let all : list_all is_right (j ∷ js) ≡ true = counted_all is_right (j ∷ js) (sym (ap (λ (c : Counts). c.right) is) ∙ same ∙ ap (λ (c : Counts). c.rows) is) in
     ap (λ b. cond b AllRight Differing) all
 
 pub tested_differing : (judgements : List Judgement) (counts : Counts) → counts ≡ counts_of judgements → counts.right ≢ counts.rows → tested_of judgements ≡ Differing
-tested_differing judgements counts is other =
-    elim (cases_Bool (list_all is_right judgements)) [
-      | inl all ↦ absurd (other (ap (λ (c : Counts). c.right) is ∙ all_counted is_right judgements all ∙ sym (ap (λ (c : Counts). c.rows) is)))
+tested_differing [] counts is other = refl
+tested_differing (j ∷ js) counts is other =
+    elim (cases_Bool (list_all is_right (j ∷ js))) [
+      | inl all ↦ absurd (other (ap (λ (c : Counts). c.right) is ∙ all_counted is_right (j ∷ js) all ∙ sym (ap (λ (c : Counts). c.rows) is)))
       | inr some ↦ ap (λ b. cond b AllRight Differing) some
     ]
 
+no_fault : (number : ℕ) (found : List ℕ) → fault_line number found ≡ [] → found ≡ []
+no_fault number [] none = refl
+no_fault number (byte ∷ bytes) none = absurd (cc none)
+
 -- a row without a line is right, and one with lines is wrong
-pub row_right : (number : ℕ) (outcome : Outcome) (columns : List Column) (fields : Fields) (text : List ℕ) → IsRowText number outcome columns fields text → text ≡ []
-    → MeetsRow outcome columns fields
-row_right number outcome columns fields text is none =
-    let parts = empty_parts number outcome (unexpected_line number columns outcome) is.lines (sym none ∙ is.joined) in
-    record { each = all_met number outcome columns fields is.lines is.are_lines parts.1; without_fault = λ absent. no_fault outcome (sym (ap (λ b. cond b [] (fault_line number outcome)) absent) ∙ parts.0) } where
-      no_fault : (o : Outcome) → fault_line number o ≡ [] → found_fault o ≡ []
-      no_fault (Ok values) none = refl
-      no_fault (Err fault) none = absurd (cc none)
+pub row_right : (number : ℕ) (finding : Finding) (columns : List Column) (fields : Fields) (text : List ℕ) → IsRowText number finding columns fields text → text ≡ []
+    → MeetsRow finding columns fields
+row_right number finding columns fields text is none =
+    let parts = empty_parts number finding (unexpected_line number columns fields finding) is.lines (sym none ∙ is.joined) in
+    record {
+      each = all_met number finding columns fields is.lines is.are_lines parts.1;
+      without_fault = λ absent. no_fault number (found_fault finding) (sym (ap (λ b. cond b [] (fault_line number (found_fault finding))) absent) ∙ parts.0);
+    }
 
 -- a row without a line is right
-pub judged_right : (number : ℕ) (plan : PlanParts) (columns : List Column) (fields : Fields) (given : List Slot) (outcome : Outcome) (text : List ℕ) → env plan given ≡ outcome
-    → HasValues plan columns fields given → IsRowText number outcome columns fields text → text ≡ [] → IsJudged number plan columns fields Right text
-judged_right number plan columns fields given outcome text is has is_text none =
-    let meets = subst (λ o. MeetsRow o columns fields) (sym is) (row_right number outcome columns fields text is_text none) in
-    (record { given = given; has = has; meets = meets }, none)
+pub judged_right : (number : ℕ) (plan : PlanParts) (columns : List Column) (fields : Fields) (finding : Finding) (text : List ℕ) → IsFindingOf plan columns fields finding
+    → IsRowText number finding columns fields text → text ≡ [] → IsJudged number plan columns fields Right text
+judged_right number plan columns fields finding text found is_text none =
+    (record { finding = finding; found = found; meets = row_right number finding columns fields text is_text none }, none)
 
 -- a row with lines is wrong
-pub judged_wrong : (number : ℕ) (plan : PlanParts) (columns : List Column) (fields : Fields) (given : List Slot) (outcome : Outcome) (text : List ℕ) → env plan given ≡ outcome
-    → HasValues plan columns fields given → IsRowText number outcome columns fields text → text ≢ [] → IsJudged number plan columns fields Wrong text
-judged_wrong number plan columns fields given outcome text is has is_text some =
-    record { given = given; has = has; is_text = subst (λ o. IsRowText number o columns fields text) (sym is) is_text; some = some }
+pub judged_wrong : (number : ℕ) (plan : PlanParts) (columns : List Column) (fields : Fields) (finding : Finding) (text : List ℕ) → IsFindingOf plan columns fields finding
+    → IsRowText number finding columns fields text → text ≢ [] → IsJudged number plan columns fields Wrong text
+judged_wrong number plan columns fields finding text found is_text some = record { finding = finding; found = found; is_text = is_text; some = some }
 
 -- a row of another length is refused
 pub judged_width : (number : ℕ) (plan : PlanParts) (columns : List Column) (fields : Fields) (judged : Judged) → length fields ≢ length columns → IsRefusedBy (width_line number) judged
@@ -149,18 +160,25 @@ judged_width number plan columns fields judged other by =
 
 -- a row with a field that can't be read is refused
 pub judged_unread : (number : ℕ) (plan : PlanParts) (columns : List Column) (fields : Fields) (place : ℕ) (judged : Judged) → length fields ≡ length columns
-    → IsUnreadAt plan.names columns fields place → IsUnreadIn number columns place judged → IsJudged number plan columns fields judged.judgement judged.text.items
-judged_unread number plan columns fields place judged width unread by =
+    → IsBadField plan columns fields place → IsUnreadIn number columns place judged → IsJudged number plan columns fields judged.judgement judged.text.items
+judged_unread number plan columns fields place judged width bad by =
     subst (λ j. IsJudged number plan columns fields j judged.text.items) (sym by.by.refused)
-    (inr (record { width = width; place = place; unread = unread; column = by.column; present = by.present; line = by.by.is_line }))
+    (inr (inl (record { width = width; place = place; bad = bad; column = by.column; present = by.present; line = by.by.is_line })))
+
+-- a row with a value that no claim can have is refused
+pub judged_unfit : (number : ℕ) (plan : PlanParts) (columns : List Column) (fields : Fields) (given : List Slot) (place : ℕ) (judged : Judged) → settles plan columns ≡ true
+    → HasValues plan columns fields given → IsUnfit plan given place → IsUnfitIn number plan place judged → IsJudged number plan columns fields judged.judgement judged.text.items
+judged_unfit number plan columns fields given place judged settled has unfit by =
+    subst (λ j. IsJudged number plan columns fields j judged.text.items) (sym by.by.refused)
+    (inr (inr (record { settled = settled; given = given; has = has; place = place; unfit = unfit; input = by.input; present = by.present; line = by.by.is_line })))
 
 -- the texts for one more field of the row
-pub row_more : (number : ℕ) (outcome : Outcome) (columns : List Column) (fields : Fields) (place : ℕ) (d : Column) (field text line : List ℕ) → place < length columns
-    → field_at fields place ≡ Some field → AreFieldTexts number outcome (take place columns) (take place fields) text
-    → IsFieldText number outcome (get_or columns place d) field line → AreFieldTexts number outcome (take (place + 1) columns) (take (place + 1) fields) (text ++ line)
-row_more number outcome columns fields place d field text line within present before next =
+pub row_more : (number : ℕ) (finding : Finding) (columns : List Column) (fields : Fields) (place : ℕ) (d : Column) (field text line : List ℕ) → place < length columns
+    → field_at fields place ≡ Some field → AreFieldTexts number finding (take place columns) (take place fields) text
+    → IsFieldText number finding (get_or columns place d) field line → AreFieldTexts number finding (take (place + 1) columns) (take (place + 1) fields) (text ++ line)
+row_more number finding columns fields place d field text line within present before next =
     rw (take_more columns place d within, names_more fields place field present)
-    (field_texts_pushed number outcome (take place columns) (take place fields) text (get_or columns place d) field line before next)
+    (field_texts_pushed number finding (take place columns) (take place fields) text (get_or columns place d) field line before next)
 
 -- the judgements of one more row
 pub rows_more : (plan : PlanParts) (columns : List Column) (rows : List Row) (index : ℕ) (row : Row) (judgements : List Judgement) (text after line : List ℕ) (judgement : Judgement) → index < length rows
@@ -182,20 +200,68 @@ rows_so_far plan columns rows index judgements text within judged =
     sym (as_many plan columns 1 (map fields_of (take index rows)) judgements text judged) ∙ length-map (take index rows) fields_of ∙ length-take-le index rows within
 
 -- a field whose expectation is met adds nothing
-pub field_met : (number : ℕ) (outcome : Outcome) (column : Column) (field old : List ℕ) → IsMet outcome column field
-    → (line : List ℕ) × (old ≡ old ++ line) × IsFieldText number outcome column field line
-field_met number outcome column field old met = ([], sym (append-nil old), inl (met, refl))
+pub field_met : (number : ℕ) (finding : Finding) (column : Column) (field old : List ℕ) → IsMet finding column field
+    → (line : List ℕ) × (old ≡ old ++ line) × IsFieldText number finding column field line
+field_met number finding column field old met = ([], sym (append-nil old), inl (met, refl))
 
 -- another field adds the line of the difference
-pub field_differs : (number : ℕ) (outcome : Outcome) (column : Column) (field old named found new : List ℕ) → ¬ IsMet outcome column field
-    → named ≡ old ++ (named_text number column.name.now ++ codes " is ") → found ≡ named ++ found_text outcome column
-    → new ≡ found ++ (codes ", not " ++ (shown field ++ codes "\n")) → (line : List ℕ) × (new ≡ old ++ line) × IsFieldText number outcome column field line
-field_differs number outcome column field old named found new differs is_named is_found is_new =
-    let name = named_text number column.name.now in
-    let answer = found_text outcome column in
-    let end = codes ", not " ++ (shown field ++ codes "\n") in
-    let front = old ++ (name ++ codes " is ") in
-    let joined =
-    is_new ∙ ap (λ t. t ++ end) is_found ∙ ap (λ t. (t ++ answer) ++ end) is_named ∙ append_assoc front answer end
-    ∙ append_assoc old (name ++ codes " is ") (answer ++ end) ∙ ap (λ t. old ++ t) (append_assoc name (codes " is ") (answer ++ end)) in
-    (difference_line number column.name.now answer (shown field), joined, inr (differs, refl))
+pub field_differs : (number : ℕ) (finding : Finding) (column : Column) (field found old new : List ℕ) → ¬ IsMet finding column field → found ≡ found_text finding column
+    → new ≡ old ++ difference_line number column.name.now (shown field) found → (line : List ℕ) × (new ≡ old ++ line) × IsFieldText number finding column field line
+field_differs number finding column field found old new differs is_found is_new =
+    let line = difference_line number column.name.now (shown field) (found_text finding column) in
+    (line, is_new ∙ ap (λ f. old ++ difference_line number column.name.now (shown field) f) is_found, inr (differs, refl))
+
+-- a later field says something of faults
+pub expects_at : (columns : List Column) (fields : Fields) (place : ℕ) (c : Column) (field : List ℕ) → slice_get columns place ≡ Some c → field_at fields place ≡ Some field
+    → is_for_faults c.used field ≡ true → expects_faults columns fields ≡ true
+unfolding field_at
+expects_at [] fields place c field there present says = absurd (cc there)
+expects_at (b ∷ bs) [] place c field there present says = absurd (cc present)
+expects_at (b ∷ bs) (f ∷ fs) zero c field there present says =
+    let same : b ≡ c = cc there in
+    let also : f ≡ field = cc present in
+    ap (λ x. x || expects_faults bs fs) (ap (λ (x : Column). is_for_faults x.used f) same ∙ ap (is_for_faults c.used) also ∙ says)
+expects_at (b ∷ bs) (f ∷ fs) (suc place) c field there present says =
+    elim (cases_Bool (is_for_faults b.used f)) [
+      | inl first ↦ ap (λ x. x || expects_faults bs fs) first
+      | inr other ↦ ap (λ x. x || expects_faults bs fs) other ∙ expects_at bs fs place c field there present says
+    ]
+
+-- no field says anything of faults
+pub expects_none : (columns : List Column) (fields : Fields)
+    → ((place : ℕ) (c : Column) (field : List ℕ) → slice_get columns place ≡ Some c → field_at fields place ≡ Some field → is_for_faults c.used field ≡ false)
+    → expects_faults columns fields ≡ false
+unfolding field_at
+expects_none [] fields none = refl
+expects_none (b ∷ bs) [] none = refl
+expects_none (b ∷ bs) (f ∷ fs) none =
+    ap (λ x. x || expects_faults bs fs) (none 0 b f refl refl) ∙ expects_none bs fs (λ place c field there present. none (suc place) c field there present)
+
+-- no field before the end says anything of faults
+abbrev pub NoneSays : ℕ → List Column → Fields → Type 0
+NoneSays end columns fields =
+    (place : ℕ) (c : Column) (field : List ℕ) → place < end → slice_get columns place ≡ Some c → field_at fields place ≡ Some field → is_for_faults c.used field ≡ false
+
+pub none_says_more : (columns : List Column) (fields : Fields) (place : ℕ) (d : Column) (field : List ℕ) → place < length columns → field_at fields place ≡ Some field
+    → is_for_faults (get_or columns place d).used field ≡ false → NoneSays place columns fields → NoneSays (place + 1) columns fields
+none_says_more columns fields place d field within present silent before = λ at c f below there here.
+    below_more (λ k. (b : Column) (g : List ℕ) → slice_get columns k ≡ Some b → field_at fields k ≡ Some g → is_for_faults b.used g ≡ false) place
+    (λ k earlier b g is_b is_g. before k b g earlier is_b is_g)
+    (λ b g is_b is_g.
+    let same : b ≡ get_or columns place d = same_Some b (get_or columns place d) (sym is_b ∙ slice_get-get_or columns place d within) in
+    let also : g ≡ field = same_Some g field (sym is_g ∙ present) in
+    ap (λ (x : Column). is_for_faults x.used g) same ∙ ap (is_for_faults (get_or columns place d).used) also ∙ silent)
+    at below c f there here
+
+pub expects_here : (columns : List Column) (fields : Fields) (place : ℕ) (d : Column) (field : List ℕ) → place < length columns → field_at fields place ≡ Some field
+    → is_for_faults (get_or columns place d).used field ≡ true → expects_faults columns fields ≡ true
+expects_here columns fields place d field within present says =
+    expects_at columns fields place (get_or columns place d) field (slice_get-get_or columns place d within) present says
+
+pub expects_never : (columns : List Column) (fields : Fields) (end : ℕ) → length columns ≤ end → NoneSays end columns fields → expects_faults columns fields ≡ false
+expects_never columns fields end whole silent =
+    expects_none columns fields (λ place c field there present. let within = within_by columns place c there in silent place c field (omega (arith, within, whole)) there present) where
+      within_by : (columns : List Column) (place : ℕ) (c : Column) → slice_get columns place ≡ Some c → place < length columns
+      within_by [] place c there = absurd (none-some c there)
+      within_by (b ∷ bs) zero c there = omega arith
+      within_by (b ∷ bs) (suc place) c there = let rest = within_by bs place c there in omega (arith, rest)

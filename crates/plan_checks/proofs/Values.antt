@@ -28,21 +28,24 @@ slot_at (x ∷ xs) zero v at = at
 slot_at (x ∷ xs) (suc k) v at = slot_at xs k v at
 
 module _ (p : PlanParts) (is_read : ℕ → Bool) (lits : ℕ → List Value) (covers : Covers p lits) (reads : (name : ℕ) → needs p.tables name ≡ true → is_read name ≡ true) where
+  -- possible values in a zone lie in the zone as an input class
+  pub in_class : IsPlan p → (zone : List ℕ) (values : List Value) → ArePossible p values → LieIn (all_regions p is_read lits) zone values → (name : ℕ) → needs p.tables name ≡ true
+      → LiesInClass p lits (map slot_of values) (class_of (all_regions p is_read lits) zone) name
+  in_class plan zone values possible lie name needed =
+      let regions = all_regions p is_read lits in
+      let here = found_at p is_read lits 0 (length p.names) name zone values (within_names p name plan needed) lie possible in
+      let same : 0 + name ≡ name = omega arith in
+      let is : class_of regions zone name ≡ here.region = ap (λ found. unwrap_or found Every) here.there in
+      let listed = subst (λ k. Among here.region (regions_where p is_read lits k)) same here.listed in
+      record {
+        region = contained_among (regions_by p lits name) (class_of regions zone name) (subst (λ r. Among r (regions_by p lits name)) (sym is) (of_name p is_read lits name here.region (reads name needed) listed));
+        value = here.value;
+        is = slot_at values name here.value here.at;
+        of_kind = (and_parts (is_value (name_kind p name) here.value) (not (is_amount p name) || is_money_value here.value) (subst (λ k. Fits p k here.value) same here.fits)).0;
+        inside = ap (λ r. is_in r here.value) is ∙ here.inside;
+      }
+
   -- at possible values in a zone the tables have the value of the zone
   pub zone_is_valued : IsPlan p → (zone : List ℕ) (values : List Value) → ArePossible p values → LieIn (all_regions p is_read lits) zone values
       → answers_of (map slot_of values) [] p.tables ≡ value_in p (all_regions p is_read lits) zone
-  zone_is_valued plan zone values possible lie = classes_are_valued p lits (map slot_of values) (class_of (all_regions p is_read lits) zone) covers in_class where
-    in_class : (name : ℕ) → needs p.tables name ≡ true → LiesInClass p lits (map slot_of values) (class_of (all_regions p is_read lits) zone) name
-    in_class name needed =
-        let regions = all_regions p is_read lits in
-        let here = found_at p is_read lits 0 (length p.names) name zone values (within_names p name plan needed) lie possible in
-        let same : 0 + name ≡ name = omega arith in
-        let is : class_of regions zone name ≡ here.region = ap (λ found. unwrap_or found Every) here.there in
-        let listed = subst (λ k. Among here.region (regions_where p is_read lits k)) same here.listed in
-        record {
-          region = contained_among (regions_by p lits name) (class_of regions zone name) (subst (λ r. Among r (regions_by p lits name)) (sym is) (of_name p is_read lits name here.region (reads name needed) listed));
-          value = here.value;
-          is = slot_at values name here.value here.at;
-          of_kind = (and_parts (is_value (name_kind p name) here.value) (not (is_amount p name) || is_money_value here.value) (subst (λ k. Fits p k here.value) same here.fits)).0;
-          inside = ap (λ r. is_in r here.value) is ∙ here.inside;
-        }
+  zone_is_valued plan zone values possible lie = classes_are_valued p lits (map slot_of values) (class_of (all_regions p is_read lits) zone) covers (in_class plan zone values possible lie)

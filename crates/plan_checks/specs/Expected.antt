@@ -1,11 +1,12 @@
 -- When a field has the answer of an output, and how answers are shown.
 use Rattle.std.specs.Prelude.{ℕ, List, [], ◌∷◌, cond, codes, ◌==◌, IsUtf8}
-use Rattle.std.specs.List.{AllZip, join_by, slice_split}
+use Rattle.std.specs.List.{AllByRecursion, AllZip, join_by, slice_split}
 use Rattle.std.specs.Str.{bytes_eq}
 use Rattle.fixpoint.specs.NumberText.{shortest_text}
 use Rattle.feel_tests.specs.Calendar.{day_text}
 use Rattle.feel_tests.specs.Plain.{SpellsPlain}
 use Rattle.feel_tests.specs.Value.{flag_text, kind_of}
+use Rattle.feel_tests.specs.declared.kind.Kind.{Kind}
 use Rattle.feel_tests.specs.declared.value.Value.{Value}
 use Rattle.feel_tests.specs.declared.value.Value.TheVariants.{Number, Text, Flag, Day}
 use Rattle.tables.specs.declared.environment.Answer.{Answer}
@@ -26,6 +27,14 @@ Denotes text value = SpellsPlain (kind_of value) text value
 -- the texts that a field lists
 abbrev pub listed_texts : List ℕ → List (List ℕ)
 listed_texts field = cond (bytes_eq field empty_list) [] (slice_split (λ b. b == semicolon) field)
+
+-- the text is that of some value of the kind
+abbrev pub SpellsSome : Kind → List ℕ → Type 0
+SpellsSome kind text = (value : Value) × SpellsPlain kind text value
+
+-- each text that the field lists is that of a value of the kind
+abbrev pub AreOfKind : Kind → List ℕ → Type 0
+AreOfKind kind field = IsUtf8 field × AllByRecursion (SpellsSome kind) (listed_texts field)
 
 -- the text is that of the answer: of a single value, or the texts of a list's values in their order
 abbrev pub IsTextOf : List ℕ → Answer → Type 0

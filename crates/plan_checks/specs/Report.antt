@@ -1,50 +1,76 @@
 -- What the command `test` prints, and when the rows of a file are right.
-use Rattle.std.specs.Prelude.{◌≡◌, ◌≢◌, ◌≤◌, ◌<◌, ◌^◌, ◌⊎◌, ◌+◌, ℕ, ◌++◌, Bool, true, false, cond, List, [], ◌∷◌, codes, decimal, length, Some, slice_get}
-use Rattle.std.specs.List.{count_by, list_all}
+use Rattle.std.specs.Prelude.{◌≡◌, ◌≢◌, ◌≤◌, ◌<◌, ◌^◌, ◌⊎◌, ◌+◌, ℕ, ◌++◌, Bool, true, false, cond, List, [], ◌∷◌, codes, decimal, length, Option, Some, None, slice_get}
+use Rattle.std.specs.List.{AllZip, count_by, list_all}
 use Rattle.dtable.specs.PlanFile.{IsPlanText}
 use Rattle.intake_csv.specs.Limits.{file_limit_bytes}
 use Rattle.intake_csv.specs.Records.{Fields, records_of}
+use Rattle.settlement.specs.declared.acc.Acc.{Acc}
+use Rattle.settlement.specs.declared.claim.Claim.{Claim}
+use Rattle.settlement.specs.declared.outcome.Outcome.{Outcome}
+use Rattle.settlement.specs.Settlement.{outcome}
 use Rattle.tables.specs.declared.inputs.Slot.{Slot}
+use Rattle.tables.specs.declared.table.InputData.{InputData}
 use Rattle.tables.specs.Environment.{env}
 use Rattle.tables.specs.Inputs.{IsReady}
 use Rattle.tables.specs.Plan.{PlanParts}
 use Rattle.plan_checks.specs.declared.columns.Column.{Column}
+use Rattle.plan_checks.specs.declared.finding.Finding.{Finding}
 use Rattle.plan_checks.specs.declared.judging.Judged.{Judged}
 use Rattle.plan_checks.specs.declared.judging.Judgement.{Judgement}
 use Rattle.plan_checks.specs.declared.judging.Judgement.TheVariants.{Right, Wrong, Refused}
 use Rattle.plan_checks.specs.declared.report.Counts.{Counts}
 use Rattle.plan_checks.specs.declared.testing.Tested.{Tested}
 use Rattle.plan_checks.specs.declared.testing.Tested.TheVariants.{AllRight, Differing}
-use Rattle.plan_checks.specs.Columns.{AreColumns, GivesNeeded}
+use Rattle.plan_checks.specs.Columns.{AreColumns, GivesNeeded, settles}
+use Rattle.plan_checks.specs.Filing.{IsFiledBy, IsUnfit}
 use Rattle.plan_checks.specs.Given.{GivesRow, IsUnreadAt}
-use Rattle.plan_checks.specs.Lines.{IsRowText, MeetsRow, named_text}
+use Rattle.plan_checks.specs.Lines.{IsRowText, MeetsRow, printed, row_start}
+use Rattle.plan_checks.specs.Readable.{IsReadable, IsUnreadableAt}
 
--- the row gives a value to each name that a table reads, and these are all of its values
+-- the row gives a value to each name that is needed, its expectations can be read, and these are all of its values
 pub record HasValues (plan : PlanParts) (columns : List Column) (fields : Fields) (given : List Slot) : Type 0 where
   pub width : length fields ≡ length columns
+  pub readable : AllZip (IsReadable plan) columns fields
   pub gives : GivesRow plan.names columns fields given
   pub ready : IsReady plan.tables given
 
--- the row is right: the plan's value at the row's values meets each expectation
-pub record IsRight (plan : PlanParts) (columns : List Column) (fields : Fields) : Type 0 where
-  pub given : List Slot
-  pub has : HasValues plan columns fields given
-  pub meets : MeetsRow (env plan given) columns fields
+-- the outcome by the plan of the claim that has these values, if the rows are settled
+abbrev pub IsSettledAs : PlanParts → List Column → List Slot → Option Outcome → Type 0
+IsSettledAs plan columns given None = settles plan columns ≡ false
+IsSettledAs plan columns given (Some decided) =
+    (settles plan columns ≡ true) × ((claim : Claim) × (acc : Acc) × IsFiledBy plan given claim acc × (decided ≡ outcome plan claim acc))
 
--- the row is wrong, and its text has a line for each expectation that the plan's value at the row's values does not meet
-pub record IsWrong (number : ℕ) (plan : PlanParts) (columns : List Column) (fields : Fields) (text : List ℕ) : Type 0 where
+-- what the plan gives for these values
+pub record IsFinding (plan : PlanParts) (columns : List Column) (given : List Slot) (finding : Finding) : Type 0 where
+  pub tables : finding.tables ≡ env plan given
+  pub settled : IsSettledAs plan columns given finding.settled
+
+-- what the plan gives for the values of a row
+pub record IsFindingOf (plan : PlanParts) (columns : List Column) (fields : Fields) (finding : Finding) : Type 0 where
   pub given : List Slot
   pub has : HasValues plan columns fields given
-  pub is_text : IsRowText number (env plan given) columns fields text
+  pub is_finding : IsFinding plan columns given finding
+
+-- the row is right: what the plan gives for its values meets each expectation
+pub record IsRight (plan : PlanParts) (columns : List Column) (fields : Fields) : Type 0 where
+  pub finding : Finding
+  pub found : IsFindingOf plan columns fields finding
+  pub meets : MeetsRow finding columns fields
+
+-- the row is wrong, and its text has a line for each expectation that is not met
+pub record IsWrong (number : ℕ) (plan : PlanParts) (columns : List Column) (fields : Fields) (text : List ℕ) : Type 0 where
+  pub finding : Finding
+  pub found : IsFindingOf plan columns fields finding
+  pub is_text : IsRowText number finding columns fields text
   pub some : text ≢ []
 
 -- the line of a row that has another number of fields than the header
 abbrev pub width_line : ℕ → List ℕ
-width_line number = codes "row " ++ (decimal number ++ codes ": another number of fields than the header\n")
+width_line number = row_start number ++ codes "another number of fields than the header\n"
 
 -- the line of a row with a field that can't be read
 abbrev pub unread_line : ℕ → List ℕ → List ℕ
-unread_line number name = named_text number name ++ codes " can't be read\n"
+unread_line number name = row_start number ++ (printed name ++ codes " can't be read\n")
 
 -- a row is refused with this line
 pub record IsRefusedBy (line : List ℕ) (judged : Judged) : Type 0 where
@@ -57,19 +83,40 @@ pub record IsUnreadIn (number : ℕ) (columns : List Column) (place : ℕ) (judg
   pub present : slice_get columns place ≡ Some column
   pub by : IsRefusedBy (unread_line number column.name.now) judged
 
--- a field of the row that gives a value denotes none, and the line has the name of its column
+-- a row is refused with the line that the name at an index has no value of a claim
+pub record IsUnfitIn (number : ℕ) (plan : PlanParts) (place : ℕ) (judged : Judged) : Type 0 where
+  pub input : InputData
+  pub present : slice_get plan.names place ≡ Some input
+  pub by : IsRefusedBy (unread_line number input.name) judged
+
+-- the field of a column gives no value of the name's kind, or is an expectation that cannot be read
+abbrev pub IsBadField : PlanParts → List Column → Fields → ℕ → Type 0
+IsBadField plan columns fields place = IsUnreadAt plan.names columns fields place ⊎ IsUnreadableAt plan columns fields place
+
+-- a field of the row can't be read, and the line has the name of its column
 pub record IsUnreadRow (number : ℕ) (plan : PlanParts) (columns : List Column) (fields : Fields) (text : List ℕ) : Type 0 where
   pub width : length fields ≡ length columns
   pub place : ℕ
-  pub unread : IsUnreadAt plan.names columns fields place
+  pub bad : IsBadField plan columns fields place
   pub column : Column
   pub present : slice_get columns place ≡ Some column
   pub line : text ≡ unread_line number column.name.now
 
--- the row is refused: it has another number of fields than the header, or a field that can't be read
+-- the rows are settled, the row's value of a name is none that a claim can have, and the line has the name
+pub record IsUnfitRow (number : ℕ) (plan : PlanParts) (columns : List Column) (fields : Fields) (text : List ℕ) : Type 0 where
+  pub settled : settles plan columns ≡ true
+  pub given : List Slot
+  pub has : HasValues plan columns fields given
+  pub place : ℕ
+  pub unfit : IsUnfit plan given place
+  pub input : InputData
+  pub present : slice_get plan.names place ≡ Some input
+  pub line : text ≡ unread_line number input.name
+
+-- the row is refused: it has another number of fields than the header, a field that can't be read, or a value that no claim can have
 abbrev pub IsRefused : ℕ → PlanParts → List Column → Fields → List ℕ → Type 0
 IsRefused number plan columns fields text =
-    ((length fields ≢ length columns) × (text ≡ width_line number)) ⊎ IsUnreadRow number plan columns fields text
+    ((length fields ≢ length columns) × (text ≡ width_line number)) ⊎ (IsUnreadRow number plan columns fields text ⊎ IsUnfitRow number plan columns fields text)
 
 -- the judgement of a row, and its text
 abbrev pub IsJudged : ℕ → PlanParts → List Column → Fields → Judgement → List ℕ → Type 0
@@ -125,9 +172,10 @@ counts_line counts =
     count_text (codes "rows ") counts.rows ++ (count_text (codes " right ") counts.right
     ++ (count_text (codes " wrong ") counts.wrong ++ (count_text (codes " refused ") counts.refused ++ codes "\n")))
 
--- whether all rows are right
+-- whether there is a row, and all rows are right
 abbrev pub tested_of : List Judgement → Tested
-tested_of judgements = cond (list_all is_right judgements) AllRight Differing
+tested_of [] = Differing
+tested_of (judgement ∷ judgements) = cond (list_all is_right (judgement ∷ judgements)) AllRight Differing
 
 -- the text for these rows: the lines of each row, and the counts
 pub record IsReport (plan : PlanParts) (columns : List Column) (rows : List Fields) (tested : Tested) (text : List ℕ) : Type 0 where

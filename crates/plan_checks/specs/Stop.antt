@@ -62,7 +62,7 @@ pub record IsRepeatedColumn (plan : PlanParts) (header : Fields) (number : ℕ) 
   pub gives : use_of plan name ≡ Some (Given given)
   pub same : use_of plan earlier_name ≡ Some (Given given)
 
--- the columns of the header do not give a name that a table reads
+-- the columns of the header do not give a name that is needed
 pub record LacksName (plan : PlanParts) (header : Fields) (name : List ℕ) : Type 0 where
   pub columns : List Column
   pub are_columns : AreColumns plan header columns

@@ -3,9 +3,11 @@
 ghost use Rattle.std.specs.Prelude.{◌≡◌, IfOk, IfErr, IfSome, IfNone, position};
 ghost use Rattle.std.specs.Str.{bytes_eq};
 ghost use Rattle.csv.specs.Records.{fields_of};
-ghost use Rattle.plan_checks.specs.Columns.{AreColumns, GivesNeeded, IsColumnAt, IsUngiven, IsUnknownAt, expected_use, gives, gives_place, has_output, is_output, is_repeated, use_of};
+ghost use Rattle.plan_checks.specs.Columns.{AreColumns, GivesNeeded, IsColumnAt, IsUngiven, IsUnknownAt, expected_use, expects_settlement, fault_use, gives, gives_place, has_output, is_needed, is_of_claim, is_output, is_repeated, is_settled_use, settled_use, settles, use_of};
 ghost use Rattle.plan_checks.specs.Stop.{RefusesHeader};
 
+use crate::filing::{first_accumulator, member_place};
+use crate::part::Part;
 use crate::stop::{CasesFault, TestStop};
 use csv::ByteRecord;
 use evaluation::ValueStop;
@@ -23,7 +25,9 @@ pub enum Use {
     Given(usize),
     /// They expect the value of the output with the column's name.
     Expected,
-    /// They expect the fault of the tables.
+    /// They expect a part of the settlement of a claim with the row's values.
+    Settled(Part),
+    /// They expect the reason why the row's claim pends, or the fault of the tables.
     Fault,
 }
 
@@ -39,8 +43,8 @@ pub struct Column<'h> {
 /// # Errors
 ///
 /// The first column whose name is not one of the plan, or that gives a name which an earlier column
-/// gives, is the error. If there is none, it is the first name that a table reads and no column
-/// gives.
+/// gives, is the error. If there is none, it is the first name that is needed and no column gives:
+/// a table reads it, or a claim has it and a column expects a part of the settlement.
 pub fn read_columns<'h>(
     alloc: Global,
     plan: &Plan,
@@ -99,20 +103,42 @@ fn use_of(plan: &Plan, name: &str) -> Option<Use>
 {
     match place_of(plan.names(), name) {
         Some(place) => Some(Use::Given(place)),
-        None => expected_use(plan.tables(), name),
+        None => expected_use(plan, name),
     }
 }
 
-fn expected_use(tables: &[Table], name: &str) -> Option<Use>
-    ensures { result ≡ expected_use tables.now name.now }
+fn expected_use(plan: &Plan, name: &str) -> Option<Use>
+    ensures { result ≡ expected_use plan.now name.now }
 {
-    if is_output(tables, name) {
+    if is_output(plan.tables(), name) {
         return Some(Use::Expected);
     }
-    if name == FAULT {
-        return Some(Use::Fault);
+    match settled_use(plan, name) {
+        Some(used) => Some(used),
+        None => fault_use(name),
     }
-    None
+}
+
+fn settled_use(plan: &Plan, name: &str) -> Option<Use>
+    ensures { result ≡ settled_use plan.now.roles name.now }
+{
+    match plan.roles() {
+        Some(_) => match Part::of_name(name) {
+            Some(part) => Some(Use::Settled(part)),
+            None => None,
+        },
+        None => None,
+    }
+}
+
+fn fault_use(name: &str) -> Option<Use>
+    ensures { result ≡ fault_use name.now }
+{
+    if name == FAULT {
+        Some(Use::Fault)
+    } else {
+        None
+    }
 }
 
 fn place_of(names: &[InputData], name: &str) -> Option<usize>
@@ -162,6 +188,40 @@ impl Use {
             _ => false,
         }
     }
+
+    fn is_settled(self) -> bool
+        ensures { result ≡ is_settled_use self }
+    {
+        matches!(self, Use::Settled(_))
+    }
+}
+
+/// Returns whether the rows are settled as claims.
+pub fn settles(plan: &Plan, columns: &[Column<'_>]) -> bool
+    ensures { result ≡ settles plan.now columns.now }
+{
+    match plan.roles() {
+        Some(_) => expects_settlement(columns),
+        None => false,
+    }
+}
+
+fn expects_settlement(columns: &[Column<'_>]) -> bool
+    ensures { result ≡ expects_settlement columns.now }
+{
+    columns.iter().any(|column| column.used.is_settled())
+}
+
+fn is_of_claim(plan: &Plan, place: usize) -> bool
+    ensures { result ≡ is_of_claim plan.now place }
+{
+    member_place(plan) < place && place < first_accumulator(plan)
+}
+
+fn is_needed(plan: &Plan, columns: &[Column<'_>], place: usize) -> bool
+    ensures { result ≡ is_needed plan.now columns.now place }
+{
+    plan.needs(place) || (settles(plan, columns) && is_of_claim(plan, place))
 }
 
 fn first_ungiven<'p>(plan: &'p Plan, columns: &[Column<'_>]) -> Option<&'p InputData>
@@ -169,7 +229,7 @@ fn first_ungiven<'p>(plan: &'p Plan, columns: &[Column<'_>]) -> Option<&'p Input
     ensures given { IfNone result (GivesNeeded plan.now columns.now) }
 {
     for (place, input) in plan.names().iter().enumerate() {
-        if plan.needs(place) && !gives(columns, place) {
+        if is_needed(plan, columns, place) && !gives(columns, place) {
             return Some(input);
         }
     }

@@ -1,16 +1,22 @@
 //! The judgement of a row.
 
-ghost use Rattle.std.specs.Prelude.{◌≡◌, ◌<◌, ◌↔◌, IfOk, IsTrue, length};
+ghost use Rattle.std.specs.Prelude.{◌≡◌, ◌<◌, ◌↔◌, IfOk, IsSome, IsTrue, length, slice_get};
+ghost use Rattle.std.specs.List.{AllZip};
 ghost use Rattle.csv.specs.Records.{fields_of};
 ghost use Rattle.tables.specs.Environment.{env};
 ghost use Rattle.tables.specs.Inputs.{IsReady};
 ghost use Rattle.plan_checks.specs.Columns.{AreApart, AreOfNames, GivesNeeded};
-ghost use Rattle.plan_checks.specs.Report.{HasValues, IsJudged, IsRefusedBy, IsUnreadIn, unread_line, width_line};
+ghost use Rattle.plan_checks.specs.Readable.{IsReadable};
+ghost use Rattle.plan_checks.specs.Report.{HasValues, IsJudged, IsRefusedBy, IsSettledAs, IsUnfitIn, IsUnreadIn, unread_line, width_line};
 
-use crate::columns::Column;
+use crate::columns::{Column, settles};
+use crate::filing::filed_by;
+use crate::finding::Finding;
 use crate::given::read_given;
-use crate::lines::{append_number, append_row, row_text};
+use crate::lines::{append_printed, append_row_start, row_text};
+use crate::readable::first_unreadable;
 use csv::ByteRecord;
+use settlement::{Outcome, decide};
 use std::alloc::{AllocError, Global};
 use tables::{Env, Fault, Inputs, Plan, Valuer};
 
@@ -73,8 +79,30 @@ fn judge_fields(
     ensures { IfOk result (λ judged. IsJudged number plan.now columns.now (fields_of row.now)
         judged.judgement judged.text.items) }
 {
+    if let Some(place) = first_unreadable(alloc, plan, columns, row)? {
+        return unread_row(alloc, number, columns, place);
+    }
+    judge_readable(alloc, plan, columns, number, row)
+}
+
+// Judges a row whose expectations can be read.
+fn judge_readable(
+    alloc: Global,
+    plan: &Plan,
+    columns: &[Column<'_>],
+    number: usize,
+    row: &ByteRecord,
+) -> Result<Judged, AllocError>
+    requires apart { AreApart columns.now }
+    requires named { AreOfNames plan.now.names columns.now }
+    requires needed { GivesNeeded plan.now columns.now }
+    requires width { length (fields_of row.now) ≡ length columns.now }
+    requires readable { AllZip (IsReadable plan.now) columns.now (fields_of row.now) }
+    ensures { IfOk result (λ judged. IsJudged number plan.now columns.now (fields_of row.now)
+        judged.judgement judged.text.items) }
+{
     match read_given(alloc, plan, columns, row)? {
-        Ok(inputs) => judge_values(alloc, plan, columns, number, row, &inputs),
+        Ok(inputs) => judge_inputs(alloc, plan, columns, number, row, &inputs),
         Err(place) => unread_row(alloc, number, columns, place),
     }
 }
@@ -106,9 +134,8 @@ fn width_text(alloc: Global, number: usize) -> Result<Vec<u8>, AllocError>
     ensures { IfOk result (λ text. text.items ≡ width_line number) }
 {
     let mut text = Vec::new(alloc);
-    text.extend_from_slice(b"row ")?;
-    append_number(&mut text, number)?;
-    text.extend_from_slice(b": another number of fields than the header\n")?;
+    append_row_start(&mut text, number)?;
+    text.extend_from_slice(b"another number of fields than the header\n")?;
     Ok(text)
 }
 
@@ -116,13 +143,14 @@ fn unread_text(alloc: Global, number: usize, name: &str) -> Result<Vec<u8>, Allo
     ensures { IfOk result (λ text. text.items ≡ unread_line number name.now) }
 {
     let mut text = Vec::new(alloc);
-    append_row(&mut text, number, name)?;
+    append_row_start(&mut text, number)?;
+    append_printed(&mut text, name.as_bytes())?;
     text.extend_from_slice(b" can't be read\n")?;
     Ok(text)
 }
 
 // Judges a row with these values.
-fn judge_values(
+fn judge_inputs(
     alloc: Global,
     plan: &Plan,
     columns: &[Column<'_>],
@@ -134,9 +162,48 @@ fn judge_values(
     ensures { IfOk result (λ judged. IsJudged number plan.now columns.now (fields_of row.now)
         judged.judgement judged.text.items) }
 {
-    let outcome = outcome_of(alloc, plan, inputs)?;
-    let text = row_text(alloc, number, columns, row, &outcome);
-    drop(outcome);
+    if !settles(plan, columns) {
+        return judge_finding(alloc, plan, columns, number, row, inputs, None);
+    }
+    match filed_by(alloc, plan, inputs)? {
+        Ok(filed) => {
+            let outcome = decide(alloc, plan, &filed.claim, filed.acc)?;
+            judge_finding(alloc, plan, columns, number, row, inputs, Some(outcome))
+        }
+        Err(place) => unfit_row(alloc, plan, number, place),
+    }
+}
+
+// Returns the judgement of a row whose value of a name no claim can have.
+fn unfit_row(alloc: Global, plan: &Plan, number: usize, place: usize) -> Result<Judged, AllocError>
+    requires { IsSome (slice_get plan.now.names place) }
+    ensures { IfOk result (IsUnfitIn number plan.now place) }
+{
+    let judgement = Judgement::Refused;
+    let name = plan.names()[place].name.as_str();
+    let text = unread_text(alloc, number, name)?;
+    Ok(Judged { judgement, text })
+}
+
+// Judges a row with these values and this outcome of its claim, if the rows are settled.
+fn judge_finding(
+    alloc: Global,
+    plan: &Plan,
+    columns: &[Column<'_>],
+    number: usize,
+    row: &ByteRecord,
+    inputs: &Inputs,
+    settled: Option<Outcome>,
+) -> Result<Judged, AllocError>
+    requires values { HasValues plan.now columns.now (fields_of row.now) inputs.now }
+    requires settled { IsSettledAs plan.now columns.now inputs.now settled }
+    ensures { IfOk result (λ judged. IsJudged number plan.now columns.now (fields_of row.now)
+        judged.judgement judged.text.items) }
+{
+    let tables = tables_value(alloc, plan, inputs)?;
+    let finding = Finding { tables, settled };
+    let text = row_text(alloc, number, columns, row, &finding);
+    drop(finding);
     let text = text?;
     if text.as_slice().is_empty() {
         let judgement = Judgement::Right;
@@ -146,13 +213,13 @@ fn judge_values(
     Ok(Judged { judgement, text })
 }
 
-fn outcome_of<'p>(
+fn tables_value<'p>(
     alloc: Global,
     plan: &'p Plan,
     inputs: &Inputs,
 ) -> Result<Result<Env<'p>, Fault>, AllocError>
     requires { IsReady plan.now.tables inputs.now }
-    ensures { IfOk result (λ outcome. env plan.now inputs.now ≡ outcome) }
+    ensures { IfOk result (λ value. env plan.now inputs.now ≡ value) }
 {
     match plan.value(alloc, inputs) {
         Ok(values) => Ok(Ok(values)),

@@ -1,46 +1,54 @@
-//! The lines of a row: one for each expectation that the outcome of the tables does not meet.
+//! The lines of a row: one for each expectation that the plan does not meet.
 
-ghost use Rattle.std.specs.Prelude.{◌≡◌, ◌<◌, ◌++◌, ◌↔◌, ℕ, List, Some, IfOk, IsTrue, OnOk, codes, decimal, length};
-ghost use Rattle.std.specs.Option.{option_copied};
+ghost use Rattle.std.specs.Prelude.{◌≡◌, ◌<◌, ◌++◌, ◌↔◌, ◌⊎◌, ℕ, List, [], Some, IfOk, IsSomeAnd, IsTrue, OnOk, codes, decimal, length};
+ghost use Rattle.std.specs.Option.{option_copied, option_map_or};
 ghost use Rattle.csv.specs.Records.{field_at, fields_of};
 ghost use Rattle.evaluation.specs.Stop.{fault_text};
 ghost use Rattle.faults.specs.ReasonText.{reason_text};
-ghost use Rattle.plan_checks.specs.Lines.{IsAnswerExpected, IsFieldText, IsMet, IsRowText, answered, expects_faults, fault_line, found_fault, found_text, is_for_faults, named_text, shown, shown_answer, shown_fault, unexpected_line};
+ghost use Rattle.plan_checks.specs.declared.columns.Use.TheVariants.{Expected, Settled};
+ghost use Rattle.plan_checks.specs.Expected.{HasAnswer, plain_answer};
+ghost use Rattle.plan_checks.specs.Lines.{HasPart, IsFieldText, IsFound, IsMet, IsOptional, IsRowText, answered, absent_word, difference_line, expected_words, expects_faults, fault_line, found_fault, found_text, found_words, is_for_faults, part_text, printed, row_start, shown, tables_fault, unexpected_line};
+ghost use Rattle.plan_checks.specs.Parts.{pending_text, status_word};
 
 use crate::columns::{Column, FAULT, Use};
-use crate::expected::has_answer;
+use crate::expected::{denotes_number, has_answer};
+use crate::finding::Finding;
+use crate::part::Part;
 use crate::plain::append_plain;
 use csv::ByteRecord;
-use faults::Reason;
+use faults::{Reason, push_printable};
+use feel_tests::Value;
 use itoa::Buffer;
+use settlement::{Outcome, Verdict};
 use std::alloc::{AllocError, Global};
 use tables::{Answer, Env, Fault};
 
 /// The word for a text that is absent.
-const ABSENT: &str = "none";
+const ABSENT: &[u8] = b"none";
 
-/// Returns the lines of the row with this number, which has a field for each column, and whose
-/// given values have this outcome.
+/// Returns the lines of the row with this number, which has a field for each column, and for whose
+/// values the plan gives this.
 pub fn row_text(
     alloc: Global,
     number: usize,
     columns: &[Column<'_>],
     row: &ByteRecord,
-    outcome: &Result<Env<'_>, Fault>,
+    finding: &Finding<'_>,
 ) -> Result<Vec<u8>, AllocError>
     requires { length (fields_of row.now) ≡ length columns.now }
     ensures { IfOk result (λ text.
-        IsRowText number outcome.now columns.now (fields_of row.now) text.items) }
+        IsRowText number finding.now columns.now (fields_of row.now) text.items) }
 {
     let mut text = Vec::new(alloc);
-    append_unexpected(&mut text, number, columns, outcome)?;
+    append_unexpected(&mut text, number, columns, row, finding)?;
     for (place, column) in columns.iter().enumerate() {
-        append_field(&mut text, number, *column, field_of(row, place), outcome)?;
+        append_field(&mut text, number, *column, field_of(row, place), finding)?;
     }
     Ok(text)
 }
 
-fn field_of(row: &ByteRecord, place: usize) -> &[u8]
+/// Returns the field at an index.
+pub fn field_of(row: &ByteRecord, place: usize) -> &[u8]
     requires { place < length (fields_of row.now) }
     ensures { field_at (fields_of row.now) place ≡ Some result.now }
 {
@@ -50,50 +58,60 @@ fn field_of(row: &ByteRecord, place: usize) -> &[u8]
     }
 }
 
-fn expects_faults(columns: &[Column<'_>]) -> bool
-    ensures { result ≡ expects_faults columns.now }
+fn expects_faults(columns: &[Column<'_>], row: &ByteRecord) -> bool
+    requires { length (fields_of row.now) ≡ length columns.now }
+    ensures { result ≡ expects_faults columns.now (fields_of row.now) }
 {
-    columns.iter().any(|column| column.used.is_for_faults())
+    for (place, column) in columns.iter().enumerate() {
+        if column.used.is_for_faults(field_of(row, place)) {
+            return true;
+        }
+    }
+    false
 }
 
 impl Use {
-    fn is_for_faults(self) -> bool
-        ensures { result ≡ is_for_faults self }
+    fn is_for_faults(self, field: &[u8]) -> bool
+        ensures { result ≡ is_for_faults self field.now }
     {
-        matches!(self, Use::Fault)
+        match self {
+            Use::Settled(Part::Status) => !field.is_empty(),
+            Use::Settled(Part::Reason) => !field.is_empty(),
+            Use::Settled(Part::Amount(_)) => false,
+            Use::Fault => true,
+            Use::Given(_) => false,
+            Use::Expected => false,
+        }
     }
 }
 
-// Appends the line of a fault if no column expects faults.
+// Appends the line of a fault if no field of the row says anything of faults.
 fn append_unexpected(
     text: &mut Vec<u8>,
     number: usize,
     columns: &[Column<'_>],
-    outcome: &Result<Env<'_>, Fault>,
+    row: &ByteRecord,
+    finding: &Finding<'_>,
 ) -> Result<(), AllocError>
-    ensures { OnOk result (text.new.items
-        ≡ text.old.items ++ unexpected_line number columns.now outcome.now) }
+    requires { length (fields_of row.now) ≡ length columns.now }
+    ensures { OnOk result (text.new.items ≡ text.old.items
+        ++ unexpected_line number columns.now (fields_of row.now) finding.now) }
 {
-    if expects_faults(columns) {
+    if expects_faults(columns, row) {
         return Ok(());
     }
-    append_fault_line(text, number, outcome)
+    let found = found_fault(*text.allocator(), finding)?;
+    append_fault_line(text, number, found.as_slice())
 }
 
-// Appends the line of a fault that is not expected.
-fn append_fault_line(
-    text: &mut Vec<u8>,
-    number: usize,
-    outcome: &Result<Env<'_>, Fault>,
-) -> Result<(), AllocError>
-    ensures { OnOk result (text.new.items ≡ text.old.items ++ fault_line number outcome.now) }
+// Appends the line of a fault that is not expected; nothing if there is none.
+fn append_fault_line(text: &mut Vec<u8>, number: usize, found: &[u8]) -> Result<(), AllocError>
+    ensures { OnOk result (text.new.items ≡ text.old.items ++ fault_line number found.now) }
 {
-    if let Err(fault) = outcome {
-        append_named(text, number, FAULT)?;
-        append_fault(text, *fault)?;
-        append_expected(text, b"")?;
+    if found.is_empty() {
+        return Ok(());
     }
-    Ok(())
+    append_difference(text, number, FAULT, ABSENT, found)
 }
 
 // Appends the line of a difference if the field's expectation is not met.
@@ -102,92 +120,285 @@ fn append_field(
     number: usize,
     column: Column<'_>,
     field: &[u8],
-    outcome: &Result<Env<'_>, Fault>,
+    finding: &Finding<'_>,
 ) -> Result<(), AllocError>
     ensures { OnOk result ((line : List ℕ)
         × (text.new.items ≡ text.old.items ++ line)
-        × IsFieldText number outcome.now column.entry field.now line) }
+        × IsFieldText number finding.now column.entry field.now line) }
 {
-    if is_met(*text.allocator(), column, field, outcome)? {
+    let alloc = *text.allocator();
+    if is_met(alloc, column, field, finding)? {
         return Ok(());
     }
-    append_named(text, number, column.name)?;
-    append_found(text, column, outcome)?;
-    append_expected(text, field)
+    let found = found_text(alloc, column, finding)?;
+    append_difference(
+        text,
+        number,
+        column.name,
+        text_or_absent(field),
+        found.as_slice(),
+    )
 }
 
 fn is_met(
     alloc: Global,
     column: Column<'_>,
     field: &[u8],
-    outcome: &Result<Env<'_>, Fault>,
+    finding: &Finding<'_>,
 ) -> Result<bool, AllocError>
-    ensures { IfOk result (λ met. IsTrue met ↔ IsMet outcome.now column.entry field.now) }
+    ensures { IfOk result (λ met. IsTrue met ↔ IsMet finding.now column.entry field.now) }
 {
     match column.used {
         Use::Given(_) => Ok(true),
-        Use::Expected => is_answered(alloc, column.name, field, outcome),
-        Use::Fault => is_fault(alloc, field, outcome),
+        Use::Expected => meets_answer(alloc, column.name, field, finding),
+        Use::Settled(part) => meets_part(alloc, part, field, finding),
+        Use::Fault => is_fault(alloc, field, finding),
     }
+}
+
+// An empty field expects no answer.
+fn meets_answer(
+    alloc: Global,
+    name: &str,
+    field: &[u8],
+    finding: &Finding<'_>,
+) -> Result<bool, AllocError>
+    ensures { IfOk result (λ met. IsTrue met ↔ (((field.now ≡ []) × IsOptional Expected)
+        ⊎ IsFound Expected finding.now name.now field.now)) }
+{
+    if field.is_empty() {
+        return Ok(true);
+    }
+    is_answered(alloc, name, field, &finding.tables)
+}
+
+// An empty field expects no part of the settlement. The name of its column does not matter.
+fn meets_part(
+    alloc: Global,
+    part: Part,
+    field: &[u8],
+    finding: &Finding<'_>,
+) -> Result<bool, AllocError>
+    ensures { IfOk result (λ met. (name : List ℕ) → IsTrue met
+        ↔ (((field.now ≡ []) × IsOptional (Settled part))
+        ⊎ IsFound (Settled part) finding.now name field.now)) }
+{
+    if field.is_empty() {
+        return Ok(true);
+    }
+    is_settled_so(alloc, part, field, &finding.settled)
 }
 
 fn is_answered(
     alloc: Global,
     name: &str,
     field: &[u8],
-    outcome: &Result<Env<'_>, Fault>,
+    tables: &Result<Env<'_>, Fault>,
 ) -> Result<bool, AllocError>
-    ensures { IfOk result (λ met. IsTrue met ↔ IsAnswerExpected outcome.now name.now field.now) }
+    ensures { IfOk result (λ met. IsTrue met
+        ↔ IsSomeAnd (answered tables.now name.now) (HasAnswer field.now)) }
 {
-    if field.is_empty() {
-        return Ok(true);
-    }
-    match answer_named(outcome, name) {
+    match answer_named(tables, name) {
         Some(answer) => has_answer(alloc, field, answer),
         None => Ok(false),
     }
 }
 
-fn answer_named<'o>(outcome: &'o Result<Env<'_>, Fault>, name: &str) -> Option<&'o Answer>
-    ensures { option_copied result ≡ answered outcome.now name.now }
+fn answer_named<'o>(tables: &'o Result<Env<'_>, Fault>, name: &str) -> Option<&'o Answer>
+    ensures { option_copied result ≡ answered tables.now name.now }
 {
-    match outcome {
+    match tables {
         Ok(values) => values.get(name),
         Err(_) => None,
     }
 }
 
-fn is_fault(
+fn is_settled_so(
     alloc: Global,
+    part: Part,
     field: &[u8],
-    outcome: &Result<Env<'_>, Fault>,
+    settled: &Option<Outcome>,
 ) -> Result<bool, AllocError>
-    ensures { IfOk result (λ met. IsTrue met ↔ field.now ≡ found_fault outcome.now) }
+    ensures { IfOk result (λ met. IsTrue met
+        ↔ IsSomeAnd settled.now (HasPart part field.now)) }
 {
-    let mut found = Vec::new(alloc);
-    if let Err(fault) = outcome {
-        append_fault(&mut found, *fault)?;
+    match settled {
+        Some(outcome) => has_part(alloc, part, field, outcome),
+        None => Ok(false),
     }
+}
+
+fn has_part(alloc: Global, part: Part, field: &[u8], outcome: &Outcome) -> Result<bool, AllocError>
+    ensures { IfOk result (λ same. IsTrue same ↔ HasPart part field.now outcome.now) }
+{
+    match part {
+        Part::Status => Ok(field == status_word(outcome.verdict).as_bytes()),
+        Part::Reason => {
+            let reason = pending_text(alloc, outcome.verdict)?;
+            Ok(reason.as_slice() == field)
+        }
+        Part::Amount(amount) => denotes_number(alloc, field, amount.of(outcome).amount()),
+    }
+}
+
+fn is_fault(alloc: Global, field: &[u8], finding: &Finding<'_>) -> Result<bool, AllocError>
+    ensures { IfOk result (λ met. IsTrue met ↔ field.now ≡ found_fault finding.now) }
+{
+    let found = found_fault(alloc, finding)?;
     Ok(found.as_slice() == field)
 }
 
-// Appends `row N: NAME is `.
-fn append_named(text: &mut Vec<u8>, number: usize, name: &str) -> Result<(), AllocError>
-    ensures { OnOk result (text.new.items
-        ≡ text.old.items ++ (named_text number name.now ++ codes " is ")) }
+// Returns the reason why the claim pends, or the fault of the tables; empty if there is none.
+fn found_fault(alloc: Global, finding: &Finding<'_>) -> Result<Vec<u8>, AllocError>
+    ensures { IfOk result (λ text. text.items ≡ found_fault finding.now) }
 {
-    append_row(text, number, name)?;
-    text.extend_from_slice(b" is ")
+    match &finding.settled {
+        Some(outcome) => pending_text(alloc, outcome.verdict),
+        None => tables_fault(alloc, &finding.tables),
+    }
 }
 
-/// Appends `row N: NAME`.
-pub fn append_row(text: &mut Vec<u8>, number: usize, name: &str) -> Result<(), AllocError>
-    ensures { OnOk result (text.new.items ≡ text.old.items ++ named_text number name.now) }
+fn tables_fault(alloc: Global, tables: &Result<Env<'_>, Fault>) -> Result<Vec<u8>, AllocError>
+    ensures { IfOk result (λ text. text.items ≡ tables_fault tables.now) }
+{
+    let mut text = Vec::new(alloc);
+    if let Err(fault) = tables {
+        append_fault(&mut text, *fault)?;
+    }
+    Ok(text)
+}
+
+/// Returns the word for a verdict, as the remittance has it.
+pub fn status_word(verdict: Verdict) -> &'static str
+    ensures { result.now ≡ status_word verdict }
+{
+    match verdict {
+        Verdict::Paid => "paid",
+        Verdict::Denied => "denied",
+        Verdict::Pended(_) => "pended",
+    }
+}
+
+fn pending_text(alloc: Global, verdict: Verdict) -> Result<Vec<u8>, AllocError>
+    ensures { IfOk result (λ text. text.items ≡ pending_text verdict) }
+{
+    let mut text = Vec::new(alloc);
+    if let Verdict::Pended(reason) = verdict {
+        append_reason(&mut text, reason)?;
+    }
+    Ok(text)
+}
+
+// Returns what is found in place of the expectation of a column.
+fn found_text(
+    alloc: Global,
+    column: Column<'_>,
+    finding: &Finding<'_>,
+) -> Result<Vec<u8>, AllocError>
+    ensures { IfOk result (λ text. text.items ≡ found_text finding.now column.entry) }
+{
+    match column.used {
+        Use::Given(_) => Ok(Vec::new(alloc)),
+        Use::Expected => answer_text(alloc, answer_named(&finding.tables, column.name)),
+        Use::Settled(part) => match &finding.settled {
+            Some(outcome) => part_text(alloc, part, outcome),
+            None => Vec::from_slice(alloc, ABSENT),
+        },
+        Use::Fault => {
+            let found = found_fault(alloc, finding)?;
+            Vec::from_slice(alloc, text_or_absent(found.as_slice()))
+        }
+    }
+}
+
+fn answer_text(alloc: Global, answer: Option<&Answer>) -> Result<Vec<u8>, AllocError>
+    ensures { IfOk result (λ text. text.items
+        ≡ option_map_or plain_answer (option_copied answer.entry) absent_word) }
+{
+    let mut text = Vec::new(alloc);
+    match answer {
+        Some(answer) => append_plain(&mut text, answer)?,
+        None => text.extend_from_slice(ABSENT)?,
+    }
+    Ok(text)
+}
+
+fn part_text(alloc: Global, part: Part, outcome: &Outcome) -> Result<Vec<u8>, AllocError>
+    ensures { IfOk result (λ text. text.items ≡ part_text part outcome.now) }
+{
+    match part {
+        Part::Status => Vec::from_slice(alloc, status_word(outcome.verdict).as_bytes()),
+        Part::Reason => {
+            let reason = pending_text(alloc, outcome.verdict)?;
+            Vec::from_slice(alloc, text_or_absent(reason.as_slice()))
+        }
+        Part::Amount(amount) => {
+            let mut text = Vec::new(alloc);
+            Value::Number(amount.of(outcome).amount()).write_text(&mut text)?;
+            Ok(text)
+        }
+    }
+}
+
+// Returns the text, or the word for an absent one if it is empty.
+fn text_or_absent(text: &[u8]) -> &[u8]
+    ensures { result.now ≡ shown text.now }
+{
+    if text.is_empty() { ABSENT } else { text }
+}
+
+// Appends `row N: expected NAME EXPECTED, found FOUND` and the end of the line.
+fn append_difference(
+    text: &mut Vec<u8>,
+    number: usize,
+    name: &str,
+    expected: &[u8],
+    found: &[u8],
+) -> Result<(), AllocError>
+    ensures { OnOk result (text.new.items ≡ text.old.items
+        ++ difference_line number name.now expected.now found.now) }
+{
+    append_row_start(text, number)?;
+    append_expected(text, name, expected)?;
+    append_found(text, found)
+}
+
+fn append_expected(text: &mut Vec<u8>, name: &str, expected: &[u8]) -> Result<(), AllocError>
+    ensures { OnOk result (text.new.items
+        ≡ text.old.items ++ expected_words name.now expected.now) }
+{
+    text.extend_from_slice(b"expected ")?;
+    append_printed(text, name.as_bytes())?;
+    text.extend_from_slice(b" ")?;
+    append_printed(text, expected)
+}
+
+fn append_found(text: &mut Vec<u8>, found: &[u8]) -> Result<(), AllocError>
+    ensures { OnOk result (text.new.items ≡ text.old.items ++ found_words found.now) }
+{
+    text.extend_from_slice(b", found ")?;
+    append_printed(text, found)?;
+    text.extend_from_slice(b"\n")
+}
+
+/// Appends `row N: `.
+pub fn append_row_start(text: &mut Vec<u8>, number: usize) -> Result<(), AllocError>
+    ensures { OnOk result (text.new.items ≡ text.old.items ++ row_start number) }
 {
     text.extend_from_slice(b"row ")?;
     append_number(text, number)?;
-    text.extend_from_slice(b": ")?;
-    text.extend_from_slice(name.as_bytes())
+    text.extend_from_slice(b": ")
+}
+
+/// Appends a text as a line shows it: U+FFFD replaces what a terminal would obey or not show.
+pub fn append_printed(text: &mut Vec<u8>, bytes: &[u8]) -> Result<(), AllocError>
+    ensures { OnOk result (text.new.items ≡ text.old.items ++ printed bytes.now) }
+{
+    let alloc = *text.allocator();
+    let words = String::from_utf8_lossy(alloc, bytes)?;
+    let mut shown = String::new(alloc);
+    push_printable(&mut shown, words.as_str())?;
+    text.extend_from_slice(shown.as_bytes())
 }
 
 /// Appends the decimal digits of a number.
@@ -195,62 +406,6 @@ pub fn append_number(text: &mut Vec<u8>, number: usize) -> Result<(), AllocError
     ensures { OnOk result (text.new.items ≡ text.old.items ++ decimal number) }
 {
     text.extend_from_slice(Buffer::new().format(number).as_bytes())
-}
-
-// Appends what is found in place of the expectation of a column.
-fn append_found(
-    text: &mut Vec<u8>,
-    column: Column<'_>,
-    outcome: &Result<Env<'_>, Fault>,
-) -> Result<(), AllocError>
-    ensures { OnOk result (text.new.items ≡ text.old.items ++ found_text outcome.now column.entry) }
-{
-    match column.used {
-        Use::Given(_) => Ok(()),
-        Use::Expected => append_answered(text, column.name, outcome),
-        Use::Fault => append_found_fault(text, outcome),
-    }
-}
-
-fn append_answered(
-    text: &mut Vec<u8>,
-    name: &str,
-    outcome: &Result<Env<'_>, Fault>,
-) -> Result<(), AllocError>
-    ensures { OnOk result (text.new.items
-        ≡ text.old.items ++ shown_answer (answered outcome.now name.now)) }
-{
-    match answer_named(outcome, name) {
-        Some(answer) => append_plain(text, answer),
-        None => text.extend_from_slice(ABSENT.as_bytes()),
-    }
-}
-
-fn append_found_fault(
-    text: &mut Vec<u8>,
-    outcome: &Result<Env<'_>, Fault>,
-) -> Result<(), AllocError>
-    ensures { OnOk result (text.new.items ≡ text.old.items ++ shown_fault outcome.now) }
-{
-    match outcome {
-        Ok(_) => text.extend_from_slice(ABSENT.as_bytes()),
-        Err(fault) => append_fault(text, *fault),
-    }
-}
-
-// Appends `, not EXPECTED` and the end of the line.
-fn append_expected(text: &mut Vec<u8>, field: &[u8]) -> Result<(), AllocError>
-    ensures { OnOk result (text.new.items
-        ≡ text.old.items ++ (codes ", not " ++ (shown field.now ++ codes "\n"))) }
-{
-    text.extend_from_slice(b", not ")?;
-    if field.is_empty() {
-        text.extend_from_slice(ABSENT.as_bytes())?;
-    } else {
-        text.extend_from_slice(field)?;
-    }
-    text.push(b'\n')?;
-    Ok(())
 }
 
 // Appends the reason of a fault, as the remittance has it.

@@ -1,6 +1,6 @@
 //! The report on all rows: the lines of each row, and the counts.
 
-ghost use Rattle.std.specs.Prelude.{◌≡◌, ◌++◌, ◌∷◌, [], List, IfOk, IfErr, OnOk, map};
+ghost use Rattle.std.specs.Prelude.{◌≡◌, ◌≢◌, ◌++◌, ◌∷◌, [], List, IfOk, IfErr, OnOk, map};
 ghost use Rattle.csv.specs.Records.{fields_of};
 ghost use Rattle.plan_checks.specs.Columns.{AreApart, AreOfNames, GivesNeeded};
 ghost use Rattle.plan_checks.specs.Report.{CanGrow, IsReport, IsTextOf, IsTextOfRecords, count_text, counts_line, counts_of, tested_of};
@@ -17,7 +17,7 @@ use csv::ByteRecord;
 use std::alloc::{AllocError, Global};
 use tables::Plan;
 
-/// The text of the report, and whether all rows are right.
+/// The text of the report, and whether there is a row and all rows are right.
 #[derive(Drop)]
 pub struct Report {
     pub text: Vec<u8>,
@@ -114,6 +114,17 @@ impl Counts {
     }
 
     fn outcome(self) -> Tested
+        ensures { (judgements : List AnyJudgement) → self ≡ counts_of judgements
+            → result ≡ tested_of judgements }
+    {
+        if self.rows == 0 {
+            return Tested::Differing;
+        }
+        self.outcome_of_rows()
+    }
+
+    fn outcome_of_rows(self) -> Tested
+        requires { self.rows ≢ 0 }
         ensures { (judgements : List AnyJudgement) → self ≡ counts_of judgements
             → result ≡ tested_of judgements }
     {

@@ -4,7 +4,7 @@ ghost use Rattle.std.specs.Option.{ok_or, option_copied};
 ghost use Rattle.faults.specs.declared.role.Role.TheVariants.{Rate};
 ghost use Rattle.fixpoint.specs.Money.{is_money, is_rate};
 ghost use Rattle.settlement.specs.Roles.{is_true_flag, limits, terms, units_where, value_of};
-ghost use Rattle.plan_checks.specs.Terms.{GivesLimits, GivesTerms};
+ghost use Rattle.plan_checks.specs.Terms.{GivesLimits, GivesTerms, same_family, same_terms};
 
 use faults::Role;
 use feel_tests::Value;
@@ -29,6 +29,35 @@ pub struct Terms {
     pub rate: Fixed,
     pub oop_max: Money,
     pub family: Option<FamilyTerms>,
+}
+
+/// Returns whether the terms are the same.
+pub fn are_same_terms(one: &Terms, other: &Terms) -> bool
+    ensures { result ≡ same_terms one.now other.now }
+{
+    one.fee == other.fee
+        && one.deductible == other.deductible
+        && one.copay == other.copay
+        && one.rate == other.rate
+        && one.oop_max == other.oop_max
+        && is_same_family(&one.family, &other.family)
+}
+
+fn is_same_family(one: &Option<FamilyTerms>, other: &Option<FamilyTerms>) -> bool
+    ensures { result ≡ same_family one.now other.now }
+{
+    match one {
+        Some(limits) => match other {
+            Some(others) => {
+                limits.deductible == others.deductible && limits.oop_max == others.oop_max
+            }
+            None => false,
+        },
+        None => match other {
+            Some(_) => false,
+            None => true,
+        },
+    }
 }
 
 /// Returns whether the role `cover` is true.

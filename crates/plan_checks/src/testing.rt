@@ -18,17 +18,18 @@ use std::io::Write;
 /// The greatest size of a file of tests in bytes, which is that of a claim file.
 pub const CASES_LIMIT_BYTES: usize = 16_777_216;
 
-/// Whether all rows are right.
+/// Whether there is a row, and all rows are right.
 #[derive(Clone, Copy, PartialEq, Eq)]
 pub enum Tested {
-    /// Each row is right.
+    /// There is a row, and each row is right.
     AllRight,
-    /// A row is wrong or refused.
+    /// A row is wrong or refused, or there is none.
     Differing,
 }
 
-/// Tests the plan's tables with the rows of a file. The first record names the columns: a name of
-/// the plan gives its value, the name of an output expects its answer, and `fault` expects a fault.
+/// Tests a plan with the rows of a file. The first record names the columns: a name of the plan
+/// gives its value, the name of an output expects its answer, a field of the remittance expects a
+/// part of the settlement of a claim with the row's values, and `fault` expects a fault.
 /// Writes a line for each expectation that is not met, a line for each row that can't be read, and
 /// the counts. The whole text is made before its first byte is written.
 #[tactic(auto, using(crate::proofs::Refusals::refused_is_reason, crate::proofs::Refusals::refused_keeps, crate::proofs::Refusals::refused_unfailed, crate::proofs::Refusals::writes_test, crate::proofs::Refusals::writes_front))]

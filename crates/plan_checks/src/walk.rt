@@ -68,7 +68,7 @@ fn one_box(alloc: Global, outcome: usize) -> Result<Sequence<ZoneBox>, AllocErro
     Ok(boxes)
 }
 
-fn append_region(
+pub fn append_region(
     alloc: Global,
     first: &[usize],
     region: usize,

@@ -25,7 +25,7 @@ pub struct Zone<'z> {
 
 impl<'z> Zone<'z> {
     // Returns the region of a name.
-    fn region_at(&self, name: usize) -> Option<&Region>
+    pub fn region_at(&self, name: usize) -> Option<&Region>
         ensures { option_copied result ≡ region_at self.now.regions.now self.now.places.now name }
     {
         let regions = self.regions.get(name)?;
@@ -72,7 +72,7 @@ impl<'z> Zone<'z> {
     }
 
     // Returns the indices of the matching rules, in rule order.
-    fn matching(
+    pub fn matching(
         &self,
         alloc: Global,
         earlier: &[Answers<'_>],
@@ -102,7 +102,7 @@ impl<'z> Zone<'z> {
     }
 
     // Returns the first column in which no allowed value is read.
-    fn first_outside(&self, earlier: &[Answers<'_>], table: &Table) -> Option<usize>
+    pub fn first_outside(&self, earlier: &[Answers<'_>], table: &Table) -> Option<usize>
         ensures value { result
             ≡ first_outside_in (class_of self.now.regions.now self.now.places.now)
             earlier.now table.now }

@@ -1,19 +1,18 @@
+use Rattle.std.proofs.Common.{inr}
 use Rattle.std.proofs.lemmas.Result.{IfOk-weaker}
-use Rattle.plan_checks.proofs.Givens.{given_within, row_is_ready}
+use Rattle.plan_checks.proofs.Readings.{readable_within}
 use Rattle.plan_checks.proofs.Rows.{judged_unread}
 use Rattle.plan_checks.proofs.judging.judge_fields.Goals as goal
 
-pub judge_values-requires : goal.judge_values-requires
-judge_values-requires c =
-    let gives = rw c.in-Ok.is at c.in_ok-inputs.ensures.given in
-    record { width = c.requires.width; gives = gives; ready = row_is_ready c.args.plan.now _ _ _ c.requires.needed gives }
-
 pub unread_row-requires : goal.unread_row-requires
 unread_row-requires c =
-    let unread = rw c.in-Err.is at c.in_ok-inputs.ensures.unread in
-    given_within _ _ _ unread.given
+    let bad = rw c.in-Some.is at c.in_ok-place.ensures.unreadable in
+    readable_within c.args.columns.now _ bad.present
 
-pub returns-in-Err : goal.returns-in-Err
-returns-in-Err c =
-    let unread = rw c.in-Err.is at c.in_ok-inputs.ensures.unread in
-    IfOk-weaker c.unread_row.result _ _ (λ judged by. judged_unread _ _ _ _ _ judged c.requires.width unread by) c.unread_row.ensures
+pub returns-in-Some : goal.returns-in-Some
+returns-in-Some c =
+    let bad = rw c.in-Some.is at c.in_ok-place.ensures.unreadable in
+    IfOk-weaker c.unread_row.result _ _ (λ judged by. judged_unread _ _ _ _ _ judged c.requires.width (inr bad) by) c.unread_row.ensures
+
+pub judge_readable-requires-clause-readable : goal.judge_readable-requires-clause-readable
+judge_readable-requires-clause-readable c = rw c.in_default.is at c.in_ok-place.ensures.readable

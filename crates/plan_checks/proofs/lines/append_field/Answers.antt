@@ -12,5 +12,5 @@ returns-then-branch c =
 pub returns : goal.returns
 returns c =
     let says = rw c.if-branch.false at c.in_ok-is_met.ensures in
-    on_ok_weaker c.append_expected.result
-    (λ last. field_differs _ _ c.args.column _ _ _ _ _ (λ met. false≢true (says.1 met)) c.in_ok-append_named.ensures c.in_ok-append_found.ensures last) c.append_expected.ensures
+    on_ok_weaker c.append_difference.result
+    (λ last. field_differs _ _ c.args.column _ _ _ _ (λ met. false≢true (says.1 met)) c.in_ok-found.ensures (rw (c.text_or_absent.ensures, c.as_slice.ensures.value) at last)) c.append_difference.ensures

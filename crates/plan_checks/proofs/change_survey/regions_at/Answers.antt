@@ -1,0 +1,17 @@
+use Rattle.std.proofs.Common.{◌++◌, ◌∷◌, [], ap, sym, ◌∙◌}
+use Rattle.plan_checks.proofs.JointLists.{chosen_more, skipped_more}
+use Rattle.plan_checks.proofs.change_survey.regions_at.Goals as goal
+use Rattle.plan_checks.proofs.change_survey.regions_at.Goals.{in-Some+in_ok-copies_of+in_ok-push, in_default}
+
+pub loop-place-preserved : goal.loop-place-preserved
+loop-place-preserved c =
+    let places = c.args.places.now in
+    let regions = c.args.regions.now in
+    let i = c.loop-place.place-index in
+    elim c.match-choices_at.branch [
+      | in-Some+in_ok-copies_of+in_ok-push w ↦
+          w.found-is ∙ w.in_ok-push.ensures.ok ∙ ap (λ rs. c.loop-place.found ++ rs ∷ []) (w.in_ok-copies_of.ensures ∙ w.as_slice.ensures)
+          ∙ ap (λ front. front ++ w.in-Some.choices.now ∷ []) c.loop-place.invariant
+          ∙ sym (chosen_more regions places i _ w.in-Some.choices.now c.loop-place-test.true w.in-Some.ensures)
+      | in_default w ↦ w.found-is ∙ c.loop-place.invariant ∙ sym (skipped_more regions places i _ c.loop-place-test.true w.in_default.ensures)
+    ]
