@@ -6,9 +6,9 @@ ghost use Rattle.clap.specs.declared.builder.value_parser.ValueParser.TheVariant
 ghost use Rattle.console.specs.Limits.{TakesWords, cutoff_limit};
 
 use crate::names::{
-    AS_CSV, AS_TEXT, ASSIGNMENT, BALANCES, BY_FILES, BY_SERVICE, CASES, CLAIM_ID, CLOSING, CUTOFF,
-    ERRORS_ONLY, EXPLAINED, FAIL, FAMILY, FILE, FORMAT, MEMBER, ORDER, OUTPUT, PLAN, RECORD,
-    REMITTANCE, WHOLE, WORKERS,
+    AS_CSV, AS_TEXT, ASSIGNMENT, BALANCES, BY_FILES, BY_SERVICE, CASES, CLAIM_ID, CLAIMS, CLOSING,
+    CUTOFF, ERRORS_ONLY, EXPLAINED, FAIL, FAMILY, FILE, FORMAT, MEMBER, NARROWED, NOTES, OLD,
+    OPENING, ORDER, OUTPUT, PLAN, RECORD, REMITTANCE, RENAMED, WHOLE, WORKERS,
 };
 use clap::builder::ValueParser;
 use clap::{Arg, ArgAction, ArgGroup};
@@ -40,7 +40,7 @@ pub fn whole_argument<'a>(alloc: Global) -> Result<Arg<'a>, AllocError> {
 
 /// The flag that makes what a check of a whole plan reports an error.
 pub fn fail_argument<'a>(alloc: Global) -> Result<Arg<'a>, AllocError> {
-    let help = "With --whole, exit with status 1 if anything is reported";
+    let help = "With --whole, exit with status 1 if a line other than `pends outside` is printed";
     flag_argument(alloc, FAIL, "fail", help).requires_arg(WHOLE)
 }
 
@@ -75,6 +75,13 @@ pub fn closing_argument<'a>(alloc: Global) -> Arg<'a> {
         .help("Write the balances after the last claim to FILE atomically, CSV")
 }
 
+/// The file for the notes on records that need a person.
+pub fn notes_argument<'a>(alloc: Global) -> Arg<'a> {
+    Arg::new(alloc, NOTES).long("notes").value_name("FILE").help(
+        "Write the pended and refused records to FILE atomically, as a work list, CSV",
+    )
+}
+
 /// The greatest number of claims that a run accepts, from 0 to `CUTOFF_LIMIT`.
 pub fn cutoff_argument<'a>(alloc: Global) -> Arg<'a>
     ensures { parser_of result ≡ Unsigned 0 cutoff_limit }
@@ -104,6 +111,56 @@ pub fn cases_argument<'a>(alloc: Global) -> Arg<'a>
     Arg::new(alloc, CASES)
         .help("The file of tests, CSV: a row for each test")
         .required(true)
+}
+
+/// The plan that the new plan is compared with, a required argument.
+pub fn old_plan_argument<'a>(alloc: Global) -> Arg<'a>
+    ensures needed { result.required ≡ true }
+{
+    Arg::new(alloc, OLD)
+        .help("The old plan file, TOML")
+        .required(true)
+}
+
+/// The plan that the new plan is compared with, as an option of `show`.
+pub fn compared_argument<'a>(alloc: Global) -> Arg<'a> {
+    Arg::new(alloc, OLD)
+        .long("compare")
+        .value_name("OLD")
+        .help("Mark what differs from this plan")
+}
+
+/// The fields that the new plan names otherwise.
+pub fn renamed_argument<'a>(alloc: Global) -> Arg<'a> {
+    Arg::new(alloc, RENAMED)
+        .long("as")
+        .action(ArgAction::Append)
+        .num_args(1)
+        .help("The new plan has the name NEW for the name OLD of the old one")
+}
+
+/// The cells that values meet where two plans are compared.
+pub fn narrowed_argument<'a>(alloc: Global) -> Arg<'a> {
+    Arg::new(alloc, NARROWED)
+        .long("where")
+        .action(ArgAction::Append)
+        .num_args(1)
+        .help("Compare the plans only at values of NAME for which CELL holds")
+}
+
+/// The claim files for which the remittances of two plans are compared.
+pub fn compared_files_argument<'a>(alloc: Global) -> Result<Arg<'a>, AllocError> {
+    Arg::new(alloc, FILE)
+        .help("Compare the remittances of these claim files, CSV")
+        .action(ArgAction::Append)
+        .num_args(0..)
+        .requires_arg(ORDER)
+}
+
+/// The flag for an empty claim file, for `names`.
+pub fn claims_argument<'a>(alloc: Global) -> Result<Arg<'a>, AllocError> {
+    let help = "Print an empty claim file for the plan, CSV";
+    flag_argument(alloc, CLAIMS, "claims", help).conflicts_with(OPENING)
 }
 
 /// The remittance that is audited.

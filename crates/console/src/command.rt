@@ -5,18 +5,20 @@ ghost use Rattle.clap.specs.Words.{AddsSubcommand, subcommand_names};
 ghost use Rattle.clap.specs.declared.builder.command.Command.TheViews.{out-Command as fields_of};
 
 use crate::arguments::{
-    assignment_argument, balances_argument, cases_argument, closing_argument, cutoff_argument,
-    explained_argument, explained_group, fail_argument, files_argument, flag_argument,
-    format_argument, order_argument, output_argument, plan_argument, record_argument,
-    remittance_argument, whole_argument, workers_argument,
+    assignment_argument, balances_argument, cases_argument, claims_argument, closing_argument,
+    compared_argument, compared_files_argument, cutoff_argument, explained_argument,
+    explained_group, fail_argument, files_argument, flag_argument, format_argument,
+    narrowed_argument, notes_argument, old_plan_argument, order_argument, output_argument,
+    plan_argument, record_argument, remittance_argument, renamed_argument, whole_argument,
+    workers_argument,
 };
 use crate::names::{
-    AUDIT, CHECK, CLAIM_ID, ERRORS_ONLY, EXPLAIN, EXPLAIN_RECORD, FAMILY, MEMBER, RUN, STRICT,
-    SUMMARY, TEST, VALUE,
+    AUDIT, CHECK, CLAIM_ID, COMPARE, ERRORS_ONLY, EXPLAIN, EXPLAIN_RECORD, FAIL, FAMILY, HTML,
+    MEMBER, NAMES, OPENING, RUN, SHOW, STRICT, SUMMARY, TERMS, TEST, VALUE,
 };
 use crate::texts::{
-    audit_example, check_example, explain_example, run_example, statuses, test_example,
-    value_example,
+    audit_example, check_example, compare_example, explain_example, names_example, run_example,
+    show_example, statuses, test_example, value_example,
 };
 use clap::{Arg, ArgMatches, Command, Error};
 use std::alloc::{AllocError, Global};
@@ -33,14 +35,18 @@ pub fn matches_of<'a>(
 
 fn command_line<'a>(alloc: Global, workers_limit: usize) -> Result<Command<'a>, AllocError>
     ensures { IfOk result (λ line. subcommand_names line
-        ≡ VALUE.now ∷ CHECK.now ∷ RUN.now ∷ AUDIT.now ∷ EXPLAIN_RECORD.now ∷ TEST.now ∷ []) }
+        ≡ VALUE.now ∷ CHECK.now ∷ RUN.now ∷ AUDIT.now ∷ EXPLAIN_RECORD.now ∷ TEST.now
+        ∷ COMPARE.now ∷ NAMES.now ∷ SHOW.now ∷ []) }
 {
     let line = with_command(bare_line(alloc)?, value_command(alloc))?;
     let line = with_command(line, check_command(alloc))?;
     let line = with_command(line, run_command(alloc, workers_limit))?;
     let line = with_command(line, audit_command(alloc))?;
     let line = with_command(line, explain_command(alloc))?;
-    with_command(line, test_command(alloc))
+    let line = with_command(line, test_command(alloc))?;
+    let line = with_command(line, compare_command(alloc))?;
+    let line = with_command(line, names_command(alloc))?;
+    with_command(line, show_command(alloc))
 }
 
 fn bare_line<'a>(alloc: Global) -> Result<Command<'a>, AllocError>
@@ -112,6 +118,7 @@ fn run_command<'a>(alloc: Global, workers_limit: usize) -> Result<Command<'a>, A
         plan_argument(alloc).long("plan"),
         balances_argument(alloc),
         closing_argument(alloc),
+        notes_argument(alloc),
         cutoff_argument(alloc),
         order_argument(alloc, order),
         workers_argument(alloc, workers_limit as u64),
@@ -167,8 +174,66 @@ fn test_command<'a>(alloc: Global) -> Result<Command<'a>, AllocError>
     ensures { IfOk result (λ command. (fields_of command).name.now ≡ TEST.now) }
 {
     let about = "Test the plan's tables with the rows of a file, and print the rows that differ";
-    let arguments = vec![in alloc; plan_argument(alloc), cases_argument(alloc)]?;
+    let arguments = vec![in alloc;
+        plan_argument(alloc),
+        cases_argument(alloc),
+        output_argument(alloc),
+    ]?;
     command_of(alloc, TEST, about, test_example(), arguments)
+}
+
+fn compare_command<'a>(alloc: Global) -> Result<Command<'a>, AllocError>
+    ensures { IfOk result (λ command. (fields_of command).name.now ≡ COMPARE.now) }
+{
+    let about =
+        "List the values at which two plans differ, or the claims that they settle otherwise";
+    let order = "The order in which the claims of the files are accepted";
+    let terms = "Leave remarks out";
+    let fail = "Exit with status 1 if the plans differ";
+    let files = compared_files_argument(alloc)?;
+    let arguments = vec![in alloc;
+        old_plan_argument(alloc),
+        plan_argument(alloc),
+        renamed_argument(alloc),
+        narrowed_argument(alloc),
+        flag_argument(alloc, TERMS, "terms", terms),
+        flag_argument(alloc, FAIL, "fail", fail),
+        balances_argument(alloc),
+        cutoff_argument(alloc),
+        order_argument(alloc, order),
+        output_argument(alloc),
+        files,
+    ]?;
+    command_of(alloc, COMPARE, about, compare_example(), arguments)
+}
+
+fn names_command<'a>(alloc: Global) -> Result<Command<'a>, AllocError>
+    ensures { IfOk result (λ command. (fields_of command).name.now ≡ NAMES.now) }
+{
+    let about = "List the plan's names with their kinds, and where they are used";
+    let opening = "Print an empty balance file for the plan, CSV";
+    let claims = claims_argument(alloc)?;
+    let arguments = vec![in alloc;
+        plan_argument(alloc),
+        claims,
+        flag_argument(alloc, OPENING, "balances", opening),
+        output_argument(alloc),
+    ]?;
+    command_of(alloc, NAMES, about, names_example(), arguments)
+}
+
+fn show_command<'a>(alloc: Global) -> Result<Command<'a>, AllocError>
+    ensures { IfOk result (λ command. (fields_of command).name.now ≡ SHOW.now) }
+{
+    let about = "Show the plan's decision tables, for people who do not read TOML";
+    let html = "Print a page in HTML";
+    let arguments = vec![in alloc;
+        plan_argument(alloc),
+        flag_argument(alloc, HTML, "html", html),
+        compared_argument(alloc),
+        output_argument(alloc),
+    ]?;
+    command_of(alloc, SHOW, about, show_example(), arguments)
 }
 
 fn command_of<'a>(

@@ -18,6 +18,15 @@ pub const EXPLAIN_RECORD: &str = "explain";
 /// The command that tests a plan with the rows of a file.
 pub const TEST: &str = "test";
 
+/// The command that compares two plans.
+pub const COMPARE: &str = "compare";
+
+/// The command that lists the names of a plan.
+pub const NAMES: &str = "names";
+
+/// The command that shows the tables of a plan.
+pub const SHOW: &str = "show";
+
 /// The plan file of each command.
 pub const PLAN: &str = "PLAN";
 
@@ -47,6 +56,30 @@ pub const REMITTANCE: &str = "REMITTANCE";
 
 /// The file of tests.
 pub const CASES: &str = "CASES";
+
+/// The plan that another one is compared with.
+pub const OLD: &str = "OLD";
+
+/// A name of the old plan, and the name that the new plan has for it.
+pub const RENAMED: &str = "OLD=NEW";
+
+/// A name, and the cell that its values meet.
+pub const NARROWED: &str = "NAME=CELL";
+
+/// The flag that leaves remarks out of a comparison.
+pub const TERMS: &str = "TERMS";
+
+/// The flag for an empty claim file.
+pub const CLAIMS: &str = "CLAIMS";
+
+/// The flag for an empty balance file.
+pub const OPENING: &str = "OPENING";
+
+/// The flag for a page in HTML.
+pub const HTML: &str = "HTML";
+
+/// The file for the notes on records that need a person.
+pub const NOTES: &str = "NOTES";
 
 /// The file and the number of the record that is explained.
 pub const RECORD: &str = "RECORD";

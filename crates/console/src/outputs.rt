@@ -5,7 +5,7 @@ ghost use Rattle.console.specs.declared.exit_status.ExitStatus.TheVariants.{Usag
 ghost use Rattle.console.specs.ExitStatus.{IsUnjudged};
 
 use crate::exit_status::{ExitStatus, no_memory, print_error};
-use crate::names::{BALANCES, CLOSING, FILE, OUTPUT, PLAN, STREAM};
+use crate::names::{BALANCES, CASES, CLOSING, FILE, NOTES, OLD, OUTPUT, PLAN, STREAM};
 use crate::paths::{is_same_file, is_same_new_file};
 use crate::unfinished::{FolderLocks, lock_folders};
 use clap::{ArgMatches, Error};
@@ -38,7 +38,7 @@ pub fn prepare_outputs<R: Files<File = File> + Eprint + AllocGlobal + Clock>(
 }
 
 /// Prints an error and returns its status if an output would replace a file that the command reads, or another output, by whatever names. The closing
-/// balances must also have a file.
+/// balances and the notes must also have a file.
 fn outputs_apart<R: Files + Eprint + AllocGlobal>(
     rt: &R,
     words: &ArgMatches<'_>,
@@ -53,16 +53,40 @@ fn outputs_apart<R: Files + Eprint + AllocGlobal>(
         return Err(print_error(rt, line, ExitStatus::Usage));
     }
     if let Some(closing) = words.get_str(CLOSING)
-        && (closing == STREAM || is_input(rt, words, closing) || is_output(rt, words, closing))
+        && is_taken(rt, words, closing, &[OUTPUT])
     {
         let line = "error: `--closing` must name a file that nothing else names";
+        return Err(print_error(rt, line, ExitStatus::Usage));
+    }
+    if let Some(notes) = words.get_str(NOTES)
+        && is_taken(rt, words, notes, &[OUTPUT, CLOSING])
+    {
+        let line = "error: `--notes` must name a file that nothing else names";
         return Err(print_error(rt, line, ExitStatus::Usage));
     }
     Ok(())
 }
 
+// Whether a path is a stream, or leads to the file of an input or of one of these outputs.
+fn is_taken<R: Files + AllocGlobal>(
+    rt: &R,
+    words: &ArgMatches<'_>,
+    path: &str,
+    outputs: &[&str],
+) -> bool {
+    if path == STREAM || is_input(rt, words, path) {
+        return true;
+    }
+    for name in outputs {
+        if is_output(rt, words, *name, path) {
+            return true;
+        }
+    }
+    false
+}
+
 fn is_input<R: Files>(files: &R, words: &ArgMatches<'_>, path: &str) -> bool {
-    for name in [PLAN, BALANCES] {
+    for name in [PLAN, OLD, BALANCES, CASES] {
         if let Some(input) = words.get_str(name)
             && is_file_of(files, path, input)
         {
@@ -87,9 +111,14 @@ fn is_file_of<R: Files>(files: &R, path: &str, input: &str) -> bool {
     path == input || is_same_file(files, path, input)
 }
 
-// Whether a path leads to the file of `--output`, also if it does not exist yet.
-fn is_output<R: Files + AllocGlobal>(files: &R, words: &ArgMatches<'_>, path: &str) -> bool {
-    match words.get_str(OUTPUT) {
+// Whether a path leads to the file of this output, also if it does not exist yet.
+fn is_output<R: Files + AllocGlobal>(
+    files: &R,
+    words: &ArgMatches<'_>,
+    name: &str,
+    path: &str,
+) -> bool {
+    match words.get_str(name) {
         Some(output) => {
             is_same_file(files, path, output) || is_same_new_file(files, path, output)
         }

@@ -19,8 +19,8 @@ text, or - for all values. A line `overlap` gives two rules that can match
 together. A line `wide` names a table with too many regions to list its gaps.
 
 With --whole, a line `pends` gives a reason why claims pend, as the remittance
-has it, and the values with which they do: a cell for each name that matters.
-Values that no claim can have are left out."
+has it, and the values with which they do: a name without a cell may have any
+value there. Values that no claim can have are left out."
 }
 
 pub fn run_example() -> &'static str {
@@ -82,6 +82,35 @@ empty field there, and a file without that column, expect no fault.
 
 There is a line for each difference and for each row that can't be read, and
 the last line has the counts. The exit status is 0 if each row is right."
+}
+
+pub fn compare_example() -> &'static str {
+    "Example:
+  adjudicate compare examples/benefits_2024.toml examples/benefits_2025.toml
+
+A line says what the plans answer otherwise, the old value and the new one, and
+the values of names at which they do: a cell for each name that matters. Values
+that no claim can have are left out. Where there is no such line, the plans
+settle every claim alike.
+
+With claim files and --order, the remittances of both plans are compared, record
+by record."
+}
+
+pub fn names_example() -> &'static str {
+    "Example:
+  adjudicate names examples/health_plan.toml
+
+With --claims or --balances the output is the first record of such a file, to
+begin one with."
+}
+
+pub fn show_example() -> &'static str {
+    "Example:
+  adjudicate show examples/health_plan.toml
+  adjudicate show --html --output plan.html examples/health_plan.toml
+
+The page needs nothing but itself: it can be sent, stored and printed."
 }
 
 pub fn statuses() -> &'static str {

@@ -3,7 +3,7 @@
 //! A command that is killed leaves its unfinished files. While a command is at work it holds a shared lock on the folder of each output. So a later one
 //! that gets an exclusive lock knows that all unfinished files in that folder are left over, and removes them.
 
-use crate::names::{CLOSING, OUTPUT, STREAM};
+use crate::names::{CLOSING, NOTES, OUTPUT, STREAM};
 use crate::paths::{folder_and_name, led_to};
 use crate::words::explains;
 use clap::ArgMatches;
@@ -27,6 +27,7 @@ const LOCK_MILLISECONDS: u64 = 1;
 pub struct FolderLocks {
     output: Option<File>,
     closing: Option<File>,
+    notes: Option<File>,
 }
 
 /// The path of the unfinished file with this number in a folder.
@@ -43,15 +44,19 @@ pub fn lock_folders<R: Files<File = File> + Eprint + AllocGlobal + Clock>(
 ) -> Result<FolderLocks, AllocError> {
     let output = folder_of(rt, words, OUTPUT)?;
     let closing = folder_of(rt, words, CLOSING)?;
+    let notes = folder_of(rt, words, NOTES)?;
     let output_is_cleared = clear_folder(rt, &output)?;
     let closing_is_cleared = clear_folder(rt, &closing)?;
-    if (output_is_cleared || closing_is_cleared) && explains(words, is_watched) {
+    let notes_are_cleared = clear_folder(rt, &notes)?;
+    let is_cleared = output_is_cleared || closing_is_cleared || notes_are_cleared;
+    if is_cleared && explains(words, is_watched) {
         let line = "Unfinished files of interrupted commands were removed beside the output.";
         let _ = rt.eprintln(line);
     }
     Ok(FolderLocks {
         output: lock_folder(rt, &output),
         closing: lock_folder(rt, &closing),
+        notes: lock_folder(rt, &notes),
     })
 }
 
