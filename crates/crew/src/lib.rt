@@ -6,7 +6,7 @@
 //! Where the terms ask for an order, the first intake thread alone offers the claims of all files, as `ordered_claims` gives
 //! them. `run_with` uses a gate of the caller's.
 //!
-//! Begin with `threads.rt`, which has the contracts of `run` and `run_with`; `intake.rt`, `acceptor.rt` and `worker.rt` have
+//! Begin with `threads.rt`, which has the contracts of `run`, `run_watched` and `run_with`; `intake.rt`, `acceptor.rt` and `worker.rt` have
 //! the work of the threads, `offering.rt` has the calls by which claims are accepted, `fetching.rt` says which runs prefetch,
 //! and `shared.rt` has what all threads of a run use.
 #![tactic(auto)]
@@ -23,4 +23,4 @@ mod threads;
 mod worker;
 
 pub use faults::RunFault;
-pub use threads::{WORKERS_LIMIT, run, run_with};
+pub use threads::{WORKERS_LIMIT, run, run_watched, run_with};

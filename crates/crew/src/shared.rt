@@ -6,6 +6,7 @@ use cutplan::CutPlan;
 use faults::RunFault;
 use gate_batching::GateBatching;
 use std::alloc::Global;
+use std::sync::atomic::AtomicU64;
 
 /// What the threads of a run share.
 #[derive(Drop)]
@@ -20,6 +21,8 @@ pub(crate) struct Shared<'r, 't, 'p, R, G> {
     pub(crate) turns: GateBatching,
     /// The first fault of the threads.
     pub(crate) least: LeastFault,
+    /// The number of decided claims, which a caller may watch.
+    pub(crate) decided: &'r AtomicU64,
 }
 
 /// The thread goes on, with what a function has returned beside its pass.

@@ -26,6 +26,7 @@ use gate_batching::GateBatching;
 use journal::finished_is_final;
 use std::alloc::Global;
 use std::sync::Wait;
+use std::sync::atomic::AtomicU64;
 use std::thread;
 use std::thread::Threads;
 use turn_lock::{Section, TicketLock};
@@ -49,6 +50,26 @@ pub fn run<'t, R: Threads + Wait + Sync>(
     ensures workers { OnOk result (IsWorkerCount workers) }
     ensures refused { IfErr result (λ fault. (fault ≡ Workers) ↔ (¬ IsWorkerCount workers)) }
 {
+    let decided = AtomicU64::new(0);
+    run_watched(rt, alloc, terms, workers, &decided)
+}
+
+/// Runs as `run` does. After each batch of claims, a worker adds the number of those that it has decided to `decided`, which
+/// another thread may watch.
+pub fn run_watched<'t, R: Threads + Wait + Sync>(
+    rt: &R,
+    alloc: Global,
+    terms: &'t Terms,
+    workers: usize,
+    decided: &AtomicU64,
+) -> Result<Batch<'t>, RunFault>
+    ensures terms { IfOk result (λ batch. batch.terms ≡ terms.now) }
+    ensures finished { IfOk result (λ batch. ForTerms terms.now (λ T. Finished T batch.journal)) }
+    ensures ordered { IfOk result (λ batch. terms.now.order ≢ Any → ForTerms terms.now
+        (λ T. AreFirstInOrder terms.now.order T.files (accepts batch.journal))) }
+    ensures workers { OnOk result (IsWorkerCount workers) }
+    ensures refused { IfErr result (λ fault. (fault ≡ Workers) ↔ (¬ IsWorkerCount workers)) }
+{
     if !may_have(workers) {
         return Err(RunFault::Workers);
     }
@@ -64,7 +85,7 @@ pub fn run<'t, R: Threads + Wait + Sync>(
     let Ok((lock, pass)) = TicketLock::new(alloc, state) else {
         return Err(RunFault::OutOfMemory);
     };
-    let state = match run_after_new(rt, alloc, terms, workers, lock, pass) {
+    let state = match run_after_new(rt, alloc, terms, workers, lock, pass, decided) {
         Ok(state) => state,
         Err(fault) => return Err(fault),
     };
@@ -91,6 +112,7 @@ fn run_after_new<S: Section + Drop + Sync, R: Threads + Wait + Sync>(
     workers: usize,
     lock: S,
     pass: S::Pass,
+    decided: &AtomicU64,
 ) -> Result<S::Value, RunFault>
 where
     S::Value: SerialGate + SerialPrefetching + Drop + Send + Sync,
@@ -106,7 +128,16 @@ where
     // proof: a finished journal is final.
     finished_is_final();
     let gate = LockedGate::over(lock);
-    let pass = match run_on(rt, alloc, terms, workers, &gate, pass, &GateFetching) {
+    let pass = match run_on(
+        rt,
+        alloc,
+        terms,
+        workers,
+        &gate,
+        pass,
+        &GateFetching,
+        decided,
+    ) {
         Ok(pass) => pass,
         Err((fault, _)) => return Err(fault),
     };
@@ -153,7 +184,8 @@ pub fn run_with<R: Threads + Wait + Sync, G: Gate + Sync>(
     ensures ended { IfErr result (λ e. e.0 ≢ Workers →
         ((G.known e.1).seen.stopped ≡ true) ⊎ G.is_worn e.1) }
 {
-    run_on(rt, alloc, terms, workers, gate, pass, &NoFetching)
+    let decided = AtomicU64::new(0);
+    run_on(rt, alloc, terms, workers, gate, pass, &NoFetching, &decided)
 }
 
 // Runs on a gate as `run_with` does, and prefetches for the offers in an order.
@@ -165,6 +197,7 @@ fn run_on<R: Threads + Wait + Sync, G: Gate + Sync, F: Fetching<G> + Sync>(
     gate: &G,
     pass: G::Pass,
     fetching: &F,
+    decided: &AtomicU64,
 ) -> Result<G::Pass, (RunFault, G::Pass)>
     requires own { G.has_pass gate.now pass }
     requires terms { (G.known pass).seen.terms ≡ terms.now }
@@ -194,6 +227,7 @@ fn run_on<R: Threads + Wait + Sync, G: Gate + Sync, F: Fetching<G> + Sync>(
         gate,
         turns: GateBatching::new(),
         least: LeastFault::new(),
+        decided,
     };
     match in_threads(&shared, fetching, pass, workers) {
         Ok(pass) => Ok(pass),

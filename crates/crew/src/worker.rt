@@ -22,6 +22,7 @@ use journal::jobs_are_stable;
 use settlement::Adjudicator;
 use std::alloc::{AllocError, Global};
 use std::sync::Wait;
+use std::sync::atomic::Ordering;
 
 /// The next step of a worker.
 enum Task {
@@ -87,6 +88,9 @@ pub(crate) fn run_worker<R: Wait, G: Gate>(
                 pass: back,
             });
         };
+        shared
+            .decided
+            .fetch_add(decided.len() as u64, Ordering::Relaxed);
         settled = decided;
         pass = back;
     }
