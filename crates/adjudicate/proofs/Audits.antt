@@ -108,6 +108,13 @@ module _ (order : Order) (texts : RunTexts) (plan : PlanParts) (spelled : IsPlan
     difference_of_result (Ok audit) is = difference_of audit is
     difference_of_result (Err e) is = tt
 
+-- a remittance of the terms of the texts is one of the texts, in the order that equals theirs
+pub remittance_of_result : (order other : Order) (texts : RunTexts) (plan : PlanParts) → IsPlanText texts.plan plan → (parts : TermsParts) → AreTermsUnder plan texts parts → other ≡ order
+    → {E : Type 0} (result : Result (Vec ℕ) E) → IfOk result (λ due. IsOrderedRemittanceOf other parts due.items) → IfOk result (λ due. IsOrderedRemittance order texts due.items)
+remittance_of_result order other texts plan spelled parts are same (Ok due) is =
+    of_texts order texts plan spelled parts are due.items (subst (λ o. IsOrderedRemittanceOf o parts due.items) same is)
+remittance_of_result order other texts plan spelled parts are same (Err e) is = tt
+
 -- an audit in an order is one in the order that equals it
 pub audit_in_order : (order other : Order) (parts : TermsParts) (given : List ℕ) {E : Type 0} (result : Result Audit E) → other ≡ order → IfOk result (IsAuditOver other parts given)
     → IfOk result (IsAuditOver order parts given)

@@ -1,4 +1,4 @@
-pub mod Ordered
+pub mod OrderedRuns
 pub mod Piecewise
 pub mod Refusals
 pub mod Remittances
@@ -9,6 +9,7 @@ pub mod Totals
 pub mod Sorted
 pub mod Adding
 pub mod Walking
+pub mod NotesWalking
 pub mod Reordered
 pub mod Accepted
 pub mod Closes

@@ -23,6 +23,8 @@ use Rattle.crew.specs.Workers.{IsWorkerCount}
 use Rattle.faults.specs.declared.run_fault.RunFault.{RunFault}
 use Rattle.faults.specs.declared.run_fault.RunFault.TheVariants as run
 use Rattle.adjudicate.specs.ClosingText.{IsClosingText}
+use Rattle.adjudicate.specs.Notes.{AreNotes}
+use Rattle.adjudicate.specs.declared.notes.Note.{Note}
 use Rattle.remit.specs.Counts.{AreRunCounts}
 use Rattle.remit.specs.declared.counts.RunCounts.{RunCounts}
 use Rattle.remit.specs.Report.{IsReport, report_records, text_of}
@@ -34,7 +36,7 @@ use Rattle.orders.specs.declared.stop.Stop.{Stop}
 use Rattle.orders.specs.declared.stop.Stop.TheVariants as stop
 use Rattle.orders.specs.RunTexts.{AreTermsOfTexts, RunTexts}
 use Rattle.orders.specs.Stop.{IsStopOfPlan, IsStopOfRun, IsStopOfTerms, IsStopOfWrite, failed_after}
-use Rattle.adjudicate.specs.RunText.{IsClosedRemittance, IsCountedRemittance, IsRemittance, IsRemittanceOf, WritesClosed, WritesCounted, WritesRemittanceFront}
+use Rattle.adjudicate.specs.RunText.{IsClosedRemittance, IsCountedRemittance, IsNotedRemittance, IsRemittance, IsRemittanceOf, WritesClosed, WritesCounted, WritesNoted, WritesRemittanceFront}
 use Rattle.adjudicate.specs.RunStop.{IsRunReason, StopsRemittance, WritesRemittanceUntil}
 
 -- the claims of files are the claims among their rows
@@ -173,6 +175,12 @@ pub closing_written : (parts : TermsParts) (J : List Event) → IsFinishedOver p
 closing_written parts J finished old new None report closed = tt
 closing_written parts J finished old new (Some text) report closed = record { journal = J; finished = finished; report = report; closed = closed }
 
+-- and of the notes
+pub notes_written : (parts : TermsParts) (J : List Event) → IsFinishedOver parts J → (old new : Option (List ℕ)) (notes : Option (Vec Note)) → WritesReport parts J old new
+    → IfSome notes (λ list. AreNotes parts J list.items) → IfSome notes (λ list. WritesNoted parts old new list.items)
+notes_written parts J finished old new None report noted = tt
+notes_written parts J finished old new (Some list) report noted = record { journal = J; finished = finished; report = report; noted = noted }
+
 -- bytes that are written for the terms of the texts are written for the texts
 module _ (texts : RunTexts) (parts : TermsParts) (over : AreTermsOfTexts texts parts) (old new : Option (List ℕ)) where
   pub whole_over : {X E : Type 0} (r : Result X E) → OnOk r (WritesText (IsRemittanceOf parts) old new) → OnOk r (WritesText (IsRemittance texts) old new)
@@ -194,6 +202,14 @@ module _ (texts : RunTexts) (parts : TermsParts) (over : AreTermsOfTexts texts p
   pub closed_over : {X E : Type 0} (closing : Option (Vec ℕ)) (r : Result X E) → OnOk r (IfSome closing (λ text. WritesClosed parts old new text.items))
       → OnOk r (IfSome closing (λ text. IsClosedRemittance texts old new text.items))
   closed_over closing r h = on_ok_weaker r (closing-over closing) h
+
+  notes-over : (notes : Option (Vec Note)) → IfSome notes (λ list. WritesNoted parts old new list.items) → IfSome notes (λ list. IsNotedRemittance texts old new list.items)
+  notes-over None h = tt
+  notes-over (Some list) h = record { parts = parts; over = over; writes = h }
+
+  pub noted_over : {X E : Type 0} (notes : Option (Vec Note)) (r : Result X E) → OnOk r (IfSome notes (λ list. WritesNoted parts old new list.items))
+      → OnOk r (IfSome notes (λ list. IsNotedRemittance texts old new list.items))
+  noted_over notes r h = on_ok_weaker r (notes-over notes) h
 
   front_over : (workers : ℕ) (s : Stop) → StopsRemittance parts workers old new s → WritesRemittanceUntil texts old new s
   front_over workers (stop.Run fault) h = h.1

@@ -6,6 +6,7 @@ pub mod Entries
 pub mod Charges
 pub mod Closing
 pub mod ClosingText
+pub mod Notes
 pub mod CarryingOn
 pub mod ReadingBack
 pub mod RunText
@@ -14,3 +15,4 @@ pub mod Settling
 pub mod RecordEnds
 pub mod Differing
 pub mod Audits
+pub mod OrderedTexts

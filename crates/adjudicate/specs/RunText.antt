@@ -6,11 +6,13 @@ use Rattle.journal.specs.Lawful.{Finished}
 use Rattle.journal.specs.Terms.{Terms}
 use Rattle.claim_gate.specs.Terms.{IsFinishedOver, IsTermsOf, TermsParts, text_in, texts_of}
 use Rattle.adjudicate.specs.ClosingText.{IsClosingText}
+use Rattle.adjudicate.specs.Notes.{AreNotes}
 use Rattle.orders.specs.RunTexts.{AreTermsOfTexts, RunTexts}
 use Rattle.remit.specs.Counts.{AreRunCounts}
 use Rattle.remit.specs.Report.{IsReport}
 use Rattle.remit.specs.Writing.{WritesReport}
 use Rattle.remit.specs.declared.counts.RunCounts.{RunCounts}
+use Rattle.adjudicate.specs.declared.notes.Note.{Note}
 use Rattle.adjudicate.specs.declared.run.RunInput.{RunInput}
 
 -- the texts that the references in the input of a run point to
@@ -79,3 +81,16 @@ pub record IsClosedRemittance (texts : RunTexts) (old new : Option (List ℕ)) (
   pub parts : TermsParts
   pub over : AreTermsOfTexts texts parts
   pub writes : WritesClosed parts old new closing
+
+-- the writer has received the remittance of a journal that is finished over these terms, and the notes are those of this journal
+pub record WritesNoted (parts : TermsParts) (old new : Option (List ℕ)) (notes : List Note) : Type 0 where
+  pub journal : List Event
+  pub finished : IsFinishedOver parts journal
+  pub report : WritesReport parts journal old new
+  pub noted : AreNotes parts journal notes
+
+-- the writer has received a remittance of the texts, and the notes are those of its journal
+pub record IsNotedRemittance (texts : RunTexts) (old new : Option (List ℕ)) (notes : List Note) : Type 0 where
+  pub parts : TermsParts
+  pub over : AreTermsOfTexts texts parts
+  pub writes : WritesNoted parts old new notes

@@ -118,7 +118,7 @@ fn audit_terms(alloc: Global, terms: &Terms, remittance: &[u8]) -> Result<Audit,
 }
 
 // Returns the bytes of the remittance of the terms in their order.
-fn ordered_remittance(alloc: Global, terms: &Terms) -> Result<Vec<u8>, AllocError>
+pub fn ordered_remittance(alloc: Global, terms: &Terms) -> Result<Vec<u8>, AllocError>
     requires { terms.now.order ≢ Order.Any }
     ensures { IfOk result (λ due. IsOrderedRemittanceOf terms.now.order terms.now due.items) }
 {

@@ -3,9 +3,11 @@
 //!
 //! `value` has the command `value`, which `evaluation` implements. `check` has the command `check`,
 //! which reports the gaps and overlaps of a plan's tables. `run` has the command `run`, which
-//! settles claims and writes their remittance; `counting` keeps the counts of its records, and
-//! `closing` has what each account has after the last claim. `audit` has the command `audit`, which
-//! says whether given bytes are the remittance of the texts in an order.
+//! settles claims and writes their remittance; `counting` keeps the counts of its records,
+//! `file_sums` the sums of each file, `closing` what each account has after the last claim, and
+//! `notes` the records that need a person. `audit` has the command `audit`, which says whether given
+//! bytes are the remittance of the texts in an order. `ordered` returns that remittance, and
+//! `comparison` lists the records in which two of them differ; `sheet` writes such lists.
 //!
 //! Plans and their evaluation come from `tables`, the check of a plan and the violations of its hit
 //! policies come from `cutplan`, cells and values come from `feel_tests`, and numbers and the
@@ -24,8 +26,13 @@
 mod audit;
 mod check;
 mod closing;
+mod comparison;
 mod counting;
+mod file_sums;
+mod notes;
+mod ordered;
 mod run;
+mod sheet;
 mod value;
 
 pub use audit::{Audit, AuditInput, Difference, decide_all, do_audit, record_count};
@@ -36,11 +43,15 @@ pub use closing::{
     AccountKey, ClosingBalances, closing_balances, closing_balances_carry_on, closing_text,
     closing_text_reads_back,
 };
+pub use comparison::{ComparedTexts, Comparison, ReasonCount, comparison_of};
 pub use counting::Counting;
 pub use crew::WORKERS_LIMIT;
 pub use dtable::PLAN_LIMIT_BYTES;
 pub use evaluation::{ArgumentFault, LINE_LIMIT_BYTES, ValueStop};
+pub use file_sums::FileSums;
 pub use intake_csv::FILE_LIMIT_BYTES;
+pub use notes::{Note, NoteCause, NotedTexts, notes_of, notes_text};
+pub use ordered::{OrderedInput, do_ordered_remittance};
 pub use orders::{Stop, texts_have_one_remittance};
 pub use remit::{FileCounts, RecordCounts, RefusalCount, RunCounts};
 pub use run::{RunInput, do_counted_run, do_run};

@@ -10,7 +10,7 @@ ghost use Rattle.journal.specs.declared.order.Order.TheVariants.{Any};
 ghost use Rattle.orders.specs.Remittance.{IsOrderedRemittanceOf};
 ghost use Rattle.orders.specs.RunTexts.{IsOrderedRemittance};
 ghost use Rattle.orders.specs.Stop.{failed_after};
-ghost use Rattle.adjudicate.specs.RunText.{IsClosedRemittance, IsCountedRemittance, IsRemittance, IsRemittanceOf, WritesClosed, WritesCounted, run_texts};
+ghost use Rattle.adjudicate.specs.RunText.{IsClosedRemittance, IsCountedRemittance, IsNotedRemittance, IsRemittance, IsRemittanceOf, WritesClosed, WritesCounted, WritesNoted, run_texts};
 ghost use Rattle.adjudicate.specs.RunStop.{IsRunReason, StopsRemittance, WritesRemittanceUntil};
 
 use crate::counting::Counting;
@@ -21,6 +21,7 @@ use orders::Stop;
 use remit::write_report_by_threads;
 use std::io::Write;
 use std::sync::Wait;
+use std::sync::atomic::AtomicU64;
 use std::thread::Threads;
 use tables::Plan;
 
@@ -76,8 +77,9 @@ pub fn do_run<R: Threads + Wait + Sync + AllocGlobal, W: Write>(
 /// `Order::Any`, the texts, the cutoff and the order determine the remittance
 /// (`texts_have_one_remittance`), whatever the number of workers.
 ///
-/// The records of the remittance are counted if `counting` requests it, and the closing balances
-/// are added up. Either is missing if memory runs out for it, which is not an error.
+/// The records of the remittance are counted if `counting` requests it, the closing balances are
+/// added up, and the records that need a person are noted. Each is missing if memory runs out for it,
+/// which is not an error.
 pub fn do_counted_run<R: Threads + Wait + Sync + AllocGlobal, W: Write>(
     rt: &R,
     input: RunInput,
@@ -96,6 +98,9 @@ pub fn do_counted_run<R: Threads + Wait + Sync + AllocGlobal, W: Write>(
     ensures closed { OnOk result (IfSome counting.new.closing (λ closing.
         IsClosedRemittance (run_texts input.entry)
         (W.contents (writer_of out.old)) (W.contents (writer_of out.new)) closing.items)) }
+    ensures noted { OnOk result (IfSome counting.new.notes (λ notes.
+        IsNotedRemittance (run_texts input.entry)
+        (W.contents (writer_of out.old)) (W.contents (writer_of out.new)) notes.items)) }
     ensures workers { OnOk result (IsWorkerCount input.entry.workers) }
     ensures reason { IfErr result (IsRunReason (run_texts input.entry) input.entry.workers) }
     ensures stopped { IfErr result (WritesRemittanceUntil (run_texts input.entry)
@@ -131,6 +136,9 @@ fn run_plan<R: Threads + Wait + Sync + AllocGlobal, W: Write>(
     ensures closed { OnOk result (IfSome counting.new.closing (λ closing.
         IsClosedRemittance (run_texts input.entry)
         (W.contents (writer_of out.old)) (W.contents (writer_of out.new)) closing.items)) }
+    ensures noted { OnOk result (IfSome counting.new.notes (λ notes.
+        IsNotedRemittance (run_texts input.entry)
+        (W.contents (writer_of out.old)) (W.contents (writer_of out.new)) notes.items)) }
     ensures workers { OnOk result (IsWorkerCount input.entry.workers) }
     ensures reason { IfErr result (IsRunReason (run_texts input.entry) input.entry.workers) }
     ensures stopped { IfErr result (WritesRemittanceUntil (run_texts input.entry)
@@ -170,6 +178,9 @@ fn write_remittance<R: Threads + Wait + Sync + AllocGlobal, W: Write>(
     ensures closed { OnOk result (IfSome counting.new.closing (λ closing.
         WritesClosed terms.now
         (W.contents (writer_of out.old)) (W.contents (writer_of out.new)) closing.items)) }
+    ensures noted { OnOk result (IfSome counting.new.notes (λ notes.
+        WritesNoted terms.now
+        (W.contents (writer_of out.old)) (W.contents (writer_of out.new)) notes.items)) }
     ensures workers { OnOk result (IsWorkerCount workers) }
     ensures stopped { IfErr result (StopsRemittance terms.now workers
         (W.contents (writer_of out.old)) (W.contents (writer_of out.new))) }
@@ -179,10 +190,14 @@ fn write_remittance<R: Threads + Wait + Sync + AllocGlobal, W: Write>(
 {
     // proof: each text has a list of claims, so a promise about every such list is not vacuous
     claim_lists_exist(terms);
-    let batch = crew::run(rt, rt.alloc(), terms, workers)?;
+    let unwatched = AtomicU64::new(0);
+    let decided = counting.decided_count().unwrap_or(&unwatched);
+    let batch = crew::run_watched(rt, rt.alloc(), terms, workers, decided)?;
     write_report_by_threads(rt, rt.alloc(), terms, &batch, out)?;
+    counting.add_up(rt.alloc(), terms, &batch);
     counting.count(rt.alloc(), terms, &batch);
     counting.close(rt.alloc(), terms, &batch);
+    counting.note(rt.alloc(), terms, &batch);
     counting.release(batch);
     Ok(())
 }

@@ -1,8 +1,8 @@
 use Rattle.std.proofs.lemmas.Result.{err_from_is_err_and}
 use Rattle.orders.specs.RunTexts.{AreTermsOfTexts}
 use Rattle.adjudicate.specs.RunText.{run_texts}
-use Rattle.adjudicate.proofs.Ordered.{ordered_over}
-use Rattle.adjudicate.proofs.Remittances.{closed_over, counted_over, failed_by_terms, kept_by_terms, reason_of_terms, reasons_over, stopped_over, whole_over}
+use Rattle.adjudicate.proofs.OrderedRuns.{ordered_over}
+use Rattle.adjudicate.proofs.Remittances.{closed_over, counted_over, failed_by_terms, kept_by_terms, noted_over, reason_of_terms, reasons_over, stopped_over, whole_over}
 use Rattle.adjudicate.proofs.run.run_plan.Goals as goal
 
 pub returns-in_err-terms-clause-reason : goal.returns-in_err-terms-clause-reason
@@ -73,3 +73,12 @@ returns-clause-closed g c =
       are_terms = c.in_ok-terms.ensures.ok;
     } in
     closed_over (run_texts c.args.input) c.in_ok-terms.terms over _ _ _ c.write_remittance-done.result c.write_remittance-done.ensures.closed
+
+pub returns-clause-noted : goal.returns-clause-noted
+returns-clause-noted g c =
+    let over : AreTermsOfTexts (run_texts c.args.input) c.in_ok-terms.terms = record {
+      plan = c.args.plan.now;
+      spelled = c.requires.spelled;
+      are_terms = c.in_ok-terms.ensures.ok;
+    } in
+    noted_over (run_texts c.args.input) c.in_ok-terms.terms over _ _ _ c.write_remittance-done.result c.write_remittance-done.ensures.noted

@@ -1,8 +1,8 @@
 use Rattle.std.proofs.Common.{arith}
 use Rattle.std.proofs.lemmas.Grind.{common_steps}
 use Rattle.std.proofs.lemmas.Result.{err_from_is_err_and}
-use Rattle.adjudicate.proofs.Ordered.{writes_in_order}
-use Rattle.adjudicate.proofs.Remittances.{closing_written, counts_written, failed_by_run, stops_by_run, stops_by_write, writes_remittance}
+use Rattle.adjudicate.proofs.OrderedRuns.{writes_in_order}
+use Rattle.adjudicate.proofs.Remittances.{closing_written, counts_written, failed_by_run, notes_written, stops_by_run, stops_by_write, writes_remittance}
 use Rattle.adjudicate.proofs.run.write_remittance.Goals as goal
 
 pub returns-in_err-batch-clause-stopped : goal.returns-in_err-batch-clause-stopped
@@ -23,12 +23,20 @@ returns-clause-ordered g c = writes_in_order c.args.terms.now _ c.in_ok-batch.en
 
 pub returns-clause-counted : goal.returns-clause-counted
 returns-clause-counted g c =
-    rw c.close.ensures.counts
-    (counts_written c.args.terms.now _ c.in_ok-batch.ensures.finished _ _ _ c.in_ok-write_report_by_threads.ensures.written c.count.ensures)
+    rw c.note.ensures.counts (rw c.close.ensures.counts
+    (counts_written c.args.terms.now _ c.in_ok-batch.ensures.finished _ _ _ c.in_ok-write_report_by_threads.ensures.written c.count.ensures))
 
 pub returns-clause-closed : goal.returns-clause-closed
 returns-clause-closed g c =
-    closing_written c.args.terms.now _ c.in_ok-batch.ensures.finished _ _ _ c.in_ok-write_report_by_threads.ensures.written c.close.ensures.closing
+    rw c.note.ensures.closing
+    (closing_written c.args.terms.now _ c.in_ok-batch.ensures.finished _ _ _ c.in_ok-write_report_by_threads.ensures.written c.close.ensures.closing)
+
+pub returns-clause-noted : goal.returns-clause-noted
+returns-clause-noted g c =
+    notes_written c.args.terms.now _ c.in_ok-batch.ensures.finished _ _ _ c.in_ok-write_report_by_threads.ensures.written c.note.ensures.notes
+
+pub note-requires : goal.note-requires
+note-requires g c = record { same_terms = c.in_ok-batch.ensures.terms }
 
 pub close-requires : goal.close-requires
 close-requires g c = record { same_terms = c.in_ok-batch.ensures.terms }
