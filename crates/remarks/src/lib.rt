@@ -13,5 +13,5 @@ mod records;
 mod scan;
 
 pub use cell_search::empty_cells;
-pub use lines::Remarks;
+pub use lines::{Remarks, ends_in_quotes};
 pub use scan::{Quotes, quotes_of};

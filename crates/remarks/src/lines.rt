@@ -1,6 +1,6 @@
 //! The lines that report what the texts show, and whether records may be lost by it.
 
-ghost use Rattle.std.specs.Prelude.{◌≡◌, false};
+ghost use Rattle.std.specs.Prelude.{◌≡◌, ◌↔◌, IsTrue, false};
 ghost use Rattle.csv.specs.Reading.{strip_bom};
 ghost use Rattle.remarks.specs.Quotes.{EndsInQuotes};
 
@@ -144,6 +144,16 @@ impl Remarks {
             }
         }
         Ok(())
+    }
+}
+
+/// Returns whether the text of a file ends within a quoted field.
+pub fn ends_in_quotes(text: &[u8]) -> bool
+    ensures { IsTrue result ↔ EndsInQuotes text.now }
+{
+    match quotes_of(without_mark(text)).unclosed {
+        Some(_) => true,
+        None => false,
     }
 }
 

@@ -1,0 +1,7 @@
+pub mod WholePlans
+pub mod TestStatuses
+mod Comparisons
+mod Unions
+mod Parts
+pub mod PageStatuses
+mod OptionWords

@@ -1,0 +1,19 @@
+use Rattle.value_command.proofs.Ends.{unjudged_not_done, unjudged_not_refused}
+use Rattle.plan_commands.proofs.TestStatuses.{test_done, test_refused}
+use Rattle.plan_commands.proofs.testing.test_named.Goals as goal
+
+pub returns-in-Err-clause-done : goal.returns-in-Err-clause-done
+returns-in-Err-clause-done g c = λ is_done. absurd (unjudged_not_done _ c.in-Err.ensures.failed is_done)
+
+pub returns-in-Err-clause-refused : goal.returns-in-Err-clause-refused
+returns-in-Err-clause-refused g c = λ is_refused. absurd (unjudged_not_refused _ c.in-Err.ensures.failed is_refused)
+
+pub returns-in-Ok-cases_of-clause-done : goal.returns-in-Ok-cases_of-clause-done
+returns-in-Ok-cases_of-clause-done g c =
+    test_done _ _ c.in-Ok.plan.items c.in-Ok-cases_of.cases.items c.test_texts.result c.in-Ok.ensures.named
+    c.in-Ok-cases_of.ensures.named (rw (c.as_slice.ensures.value, c.as_slice-in-Ok-cases_of.ensures.value) at c.test_texts.ensures.done)
+
+pub returns-in-Ok-cases_of-clause-refused : goal.returns-in-Ok-cases_of-clause-refused
+returns-in-Ok-cases_of-clause-refused g c =
+    test_refused _ _ c.in-Ok.plan.items c.in-Ok-cases_of.cases.items c.test_texts.result c.in-Ok.ensures.named
+    c.in-Ok-cases_of.ensures.named (rw (c.as_slice.ensures.value, c.as_slice-in-Ok-cases_of.ensures.value) at c.test_texts.ensures.refused)
