@@ -3,5 +3,4 @@ pub mod Statuses
 pub mod Explanations
 pub mod Named
 pub mod Ordered
-pub mod WholePlans
-pub mod TestStatuses
+pub mod Checks

@@ -4,9 +4,9 @@ use Rattle.clap.specs.declared.error.Error.{Error}
 use Rattle.clap.specs.declared.parser.matches.ArgMatches.{ArgMatches}
 use Rattle.console.specs.declared.exit_status.ExitStatus.{ExitStatus}
 use Rattle.console.specs.declared.exit_status.ExitStatus.TheVariants.{Refused}
-use Rattle.console.specs.declared.names.TheConstants.{AUDIT, CHECK, EXPLAIN_RECORD, RUN, TEST, VALUE}
+use Rattle.console.specs.declared.names.TheConstants.{AUDIT, CHECK, COMPARE, EXPLAIN_RECORD, RUN}
 use Rattle.console.specs.ExitStatus.{IsUnjudged}
-use Rattle.value_command.specs.Ends.{Ends, HasText, IsHelp, IsStatusOf, ValueIsDone, ValueIsRefused}
+use Rattle.value_command.specs.Ends.{Ends, HasText, IsHelp, IsStatusOf}
 use Rattle.value_command.specs.Texts.{IsNamedPlan, Whole}
 use Rattle.adjudicate.specs.declared.check.report.Findings.{Findings}
 use Rattle.orders.specs.declared.stop.Stop.{Stop}
@@ -19,10 +19,11 @@ use Rattle.orders.specs.Stop.{IsPlanReason, status_of}
 use Rattle.adjudicate.specs.Findings.{IsReportedText}
 use Rattle.commands.specs.declared.run.Texts.{Texts}
 use Rattle.adjudicate.specs.Audits.{IsAuditReason}
+use Rattle.commands.specs.Comparisons.{ClaimsAreCompared, ClaimsAreRefused}
 use Rattle.commands.specs.Explanations.{ExplainIsDone, ExplainIsRefused}
-use Rattle.commands.specs.Testing.{TestIsDone, TestIsRefused}
+use Rattle.plan_commands.specs.Ends.{PlanCommandIsDone, PlanCommandIsRefused}
 use Rattle.commands.specs.Texts.{AreClosed, HasNamedTexts, IsNamedRemittance, texts_at}
-use Rattle.commands.specs.WholePlans.{IsWholeChecked, IsWholeRefused}
+use Rattle.plan_commands.specs.WholePlans.{IsWholeChecked, IsWholeRefused}
 use Rattle.commands.specs.Words.{AsksStrict, IsCutoff, IsFindings, IsOrder, IsStrict, IsWhole, IsWorkers}
 
 -- some error has this reason, and this is its exit status
@@ -150,21 +151,20 @@ AuditIsRefused whole words status = TextsAreRefusedInAudit whole words status �
 -- the named command can end with `Done`
 abbrev pub CommandIsDone : Whole → ArgMatches → Type 0
 CommandIsDone whole matches =
-    Ends matches VALUE.now (ValueIsDone whole)
-    ⊎ (Ends matches CHECK.now (CheckIsDone whole)
+    Ends matches CHECK.now (CheckIsDone whole)
     ⊎ (Ends matches RUN.now (RunIsDone whole)
     ⊎ (Ends matches AUDIT.now (AuditIsDone whole)
-    ⊎ (Ends matches EXPLAIN_RECORD.now (ExplainIsDone whole) ⊎ Ends matches TEST.now (TestIsDone whole)))))
+    ⊎ (Ends matches EXPLAIN_RECORD.now (ExplainIsDone whole)
+    ⊎ (Ends matches COMPARE.now (ClaimsAreCompared whole) ⊎ PlanCommandIsDone whole matches))))
 
 -- the named command can end with this status of an error
 abbrev pub CommandIsRefused : Whole → ArgMatches → ExitStatus → Type 0
 CommandIsRefused whole matches status =
-    Ends matches VALUE.now (λ words. ValueIsRefused whole words status)
-    ⊎ (Ends matches CHECK.now (λ words. CheckIsRefused whole words status)
+    Ends matches CHECK.now (λ words. CheckIsRefused whole words status)
     ⊎ (Ends matches RUN.now (λ words. RunIsRefused whole words status)
     ⊎ (Ends matches AUDIT.now (λ words. AuditIsRefused whole words status)
     ⊎ (Ends matches EXPLAIN_RECORD.now (λ words. ExplainIsRefused whole words status)
-    ⊎ Ends matches TEST.now (λ words. TestIsRefused whole words status)))))
+    ⊎ (Ends matches COMPARE.now (λ words. ClaimsAreRefused whole words status) ⊎ PlanCommandIsRefused whole matches status))))
 
 -- the command line names a command that can end with `Done`, or it asks for help or the version
 abbrev pub IsDone : Whole → Result ArgMatches Error → Type 0

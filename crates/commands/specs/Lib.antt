@@ -1,6 +1,5 @@
 pub mod Words
 pub mod Texts
+pub mod Comparisons
 pub mod Explanations
-pub mod Testing
 pub mod Ends
-pub mod WholePlans

@@ -2,24 +2,14 @@
 use Rattle.std.specs.Prelude.{◌≡◌, ◌<◌, ◌^◌, ℕ, Bool, true, false, List, Option, None, Some, codes}
 use Rattle.std.specs.Option.{SomeIff}
 use Rattle.std.specs.Str.Parse.{IsNumeral, digits_value, without_leading_plus}
-use Rattle.clap.specs.Words.{found_of, one_text}
 use Rattle.clap.specs.declared.parser.matches.ArgMatches.{ArgMatches}
-use Rattle.console.specs.declared.names.TheConstants.{BY_FILES, BY_SERVICE, CUTOFF, ERRORS_ONLY, FAIL, ORDER, STRICT, WHOLE, WORKERS}
+use Rattle.console.specs.declared.names.TheConstants.{BY_FILES, BY_SERVICE, CUTOFF, ERRORS_ONLY, ORDER, STRICT, WHOLE, WORKERS}
 use Rattle.journal.specs.declared.order.Order.{Order}
 use Rattle.journal.specs.declared.order.Order.TheVariants.{Any, Files, Service}
 use Rattle.value_command.specs.Words.{word_at}
+use Rattle.plan_commands.specs.Words.{IsFlag, text_at}
 use Rattle.adjudicate.specs.declared.check.report.Findings.{Findings}
 use Rattle.adjudicate.specs.declared.check.report.Findings.TheVariants.{All, Errors}
-
--- the text of an option, if it has one
-abbrev pub text_at : ArgMatches → List ℕ → Option (List ℕ)
-text_at matches name = one_text (found_of matches) name
-
--- a flag is set by the text `true`; by `false`, or without a text, it is not set
-pub record IsFlag (text : Option (List ℕ)) (flag : Bool) : Type 0 where
-  pub set : text ≡ Some (codes "true") → flag ≡ true
-  pub unset : text ≡ Some (codes "false") → flag ≡ false
-  pub absent : text ≡ None → flag ≡ false
 
 -- the number that a text gives in decimal digits; none if there is no text
 abbrev pub IsNumber : Option (List ℕ) → Option ℕ → Type 0
@@ -39,14 +29,6 @@ AsksStrict matches = text_at matches STRICT.now ≡ Some (codes "true")
 -- all tables of a plan are checked together, or each one alone
 abbrev pub IsWhole : ArgMatches → Bool → Type 0
 IsWhole matches whole = IsFlag (text_at matches WHOLE.now) whole
-
--- the status is that of an error where anything is reported
-abbrev pub IsFail : ArgMatches → Type 0
-IsFail matches = IsFlag (text_at matches FAIL.now) true
-
--- the command line has the option `--fail`
-abbrev pub AsksFail : ArgMatches → Type 0
-AsksFail matches = text_at matches FAIL.now ≡ Some (codes "true")
 
 -- only violations of a hit policy are listed
 abbrev pub is_errors_only : Findings → Bool

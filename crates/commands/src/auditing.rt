@@ -1,16 +1,15 @@
 //! The command `audit`: reads the texts of a run and a remittance, and says whether the remittance is that of the texts in an order.
 
 ghost use Rattle.std.specs.Prelude.{◌≡◌, ◌≢◌, IfErr, IfOk};
-ghost use Rattle.orders.specs.Stop.{status_of};
 ghost use Rattle.console.specs.declared.exit_status.ExitStatus.TheVariants.{Done, Refused};
-ghost use Rattle.console.specs.ExitStatus.{IsUnjudged, code_of};
+ghost use Rattle.console.specs.ExitStatus.{IsUnjudged};
 ghost use Rattle.commands.specs.Ends.{AuditIsDone, AuditIsRefused, IsAudited, IsRefusedAudit};
 ghost use Rattle.commands.specs.Texts.{IsNamedRemittance};
 
-use crate::explaining::{AboutFiles, explain_refusal};
+use crate::explaining::refuse;
 use crate::run::{Texts, slices_of, texts_of};
 use crate::words::{cutoff_of, order_of};
-use adjudicate::{Audit, AuditInput, Difference, Order, Stop, do_audit, record_count};
+use adjudicate::{Audit, AuditInput, Difference, Order, do_audit, record_count};
 use clap::ArgMatches;
 use console::names::REMITTANCE;
 use console::{ExitStatus, Sources, no_memory};
@@ -115,17 +114,6 @@ fn report<R: Print + Eprint + AllocGlobal>(
         Audit::Same => ExitStatus::Done,
         Audit::Differs { .. } => ExitStatus::Refused,
     }
-}
-
-/// Prints an error of the library, and returns its status.
-pub fn refuse<R: Eprint + AllocGlobal>(rt: &R, about: &AboutFiles, stop: Stop) -> ExitStatus
-    ensures status { code_of result ≡ status_of stop }
-    ensures not_done { result ≢ Done }
-{
-    let answer = Err(stop);
-    let status = exit_status_of(rt, &answer);
-    explain_refusal(rt, about, &answer);
-    status
 }
 
 fn lines_of(

@@ -11,13 +11,13 @@ ghost use Rattle.commands.specs.Ends.{CheckIsDone, CheckIsRefused, IsChecked, Is
 use crate::explaining::{AboutFiles, explain_refusal};
 use crate::remarking::print_unknown_keys;
 use crate::strict::refuse_unused;
-use crate::whole_check::whole_check;
 use crate::words::{findings_of, is_strict, is_whole};
 use adjudicate::{Findings, do_findings_check};
 use clap::ArgMatches;
 use console::{AtomicTarget, ExitStatus, Sources};
 use diagnostics::explain_checked_plan;
 use fixpoint::Out;
+use plan_commands::check_whole_plan;
 use remarks::empty_cells;
 use std::io;
 use std::rt::Files;
@@ -26,7 +26,7 @@ use value_command::{
 };
 
 /// Runs the command `check`, and returns its exit status.
-#[tactic(auto, using(crate::proofs::WholePlans::check_done, crate::proofs::WholePlans::check_refused))]
+#[tactic(auto, using(crate::proofs::Checks::check_done, crate::proofs::Checks::check_refused))]
 pub fn check_of<R: Files + Print + Eprint + AllocGlobal, S: Sources>(
     rt: &R,
     sources: &S,
@@ -57,14 +57,14 @@ pub fn check_of<R: Files + Print + Eprint + AllocGlobal, S: Sources>(
 }
 
 /// Checks all tables together, or each of them alone.
-#[tactic(auto, using(crate::proofs::WholePlans::whole_checked, crate::proofs::WholePlans::whole_unchecked, crate::proofs::WholePlans::tables_checked, crate::proofs::WholePlans::tables_unchecked))]
+#[tactic(auto, using(crate::proofs::Checks::whole_checked, crate::proofs::Checks::whole_unchecked, crate::proofs::Checks::tables_checked, crate::proofs::Checks::tables_unchecked))]
 fn checked_status<R: Files + Print + Eprint + AllocGlobal>(rt: &R, about: &About) -> ExitStatus
     ensures done { result ≡ Done → IsChecked about.now.words.now about.now.plan.now }
     ensures refused { result ≡ Refused
         → IsUnchecked about.now.words.now about.now.plan.now result }
 {
     if is_whole(about.words) {
-        whole_check(rt, about)
+        check_whole_plan(rt, about)
     } else {
         check_plan(rt, about, findings_of(about.words))
     }

@@ -6,22 +6,22 @@ ghost use Rattle.commands.specs.Ends.{CommandIsDone, CommandIsRefused, IsDone, I
 
 use crate::auditing::audit_of;
 use crate::check::check_of;
+use crate::compared_claims::{compare_claims_of, has_claims};
 use crate::explained::explain_of;
 use crate::run::run_of;
-use crate::testing::test_of;
 use adjudicate::WORKERS_LIMIT;
 use clap::{ArgMatches, Error};
-use console::names::{AUDIT, CHECK, EXPLAIN_RECORD, RUN, TEST, VALUE};
+use console::names::{AUDIT, CHECK, COMPARE, EXPLAIN_RECORD, RUN};
 use console::{
     ExitStatus, Sources, explains, grow_stack, matches_of, no_memory, prepare_outputs,
     program_arguments, usage,
 };
+use plan_commands::plan_command;
 use std::fs::File;
 use std::rt::{Env, Files};
 use std::sync::Wait;
 use std::thread::Threads;
 use std::time::Clock;
-use value_command::value_of;
 
 /// Runs the command line over these texts, and returns the exit status. `is_watched` says that standard error is a terminal: then errors are
 /// explained, and a long run prints progress lines.
@@ -67,7 +67,6 @@ where
     }
 }
 
-/// `clap` accepts no command but these six.
 fn command<R, S: Sources>(
     rt: &R,
     sources: &S,
@@ -80,9 +79,6 @@ where
     ensures done { result ≡ Done → CommandIsDone (S.whole sources.now) matches.now }
     ensures refused { result ≡ Refused → CommandIsRefused (S.whole sources.now) matches.now result }
 {
-    if let Some(words) = matches.subcommand_matches(VALUE) {
-        return value_of(rt, sources, words, explains(words, is_watched));
-    }
     if let Some(words) = matches.subcommand_matches(CHECK) {
         return check_of(rt, sources, words, explains(words, is_watched));
     }
@@ -95,8 +91,10 @@ where
     if let Some(words) = matches.subcommand_matches(EXPLAIN_RECORD) {
         return explain_of(rt, sources, words, explains(words, is_watched));
     }
-    match matches.subcommand_matches(TEST) {
-        Some(words) => test_of(rt, sources, words, explains(words, is_watched)),
-        None => ExitStatus::Usage,
+    if let Some(words) = matches.subcommand_matches(COMPARE)
+        && has_claims(words)
+    {
+        return compare_claims_of(rt, sources, words, explains(words, is_watched));
     }
+    plan_command(rt, sources, matches, is_watched)
 }

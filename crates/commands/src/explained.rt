@@ -8,8 +8,7 @@ ghost use Rattle.commands.specs.Explanations.{ExplainIsDone, ExplainIsRefused, I
 ghost use Rattle.commands.specs.Texts.{texts_at};
 
 use crate::asked::{Asked, Subject, asked_of};
-use crate::auditing::refuse;
-use crate::explaining::AboutFiles;
+use crate::explaining::{AboutFiles, refuse};
 use crate::run::{Texts, slices_of, texts_of};
 use clap::ArgMatches;
 use console::{ExitStatus, Sources, no_memory, print_error};

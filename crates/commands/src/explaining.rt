@@ -1,15 +1,21 @@
-//! Explanations of the errors of `check` and `run`.
+//! Error lines of the commands over a plan and files, and their explanations.
 
-use adjudicate::Stop;
+ghost use Rattle.std.specs.Prelude.{◌≡◌, ◌≢◌};
+ghost use Rattle.orders.specs.Stop.{status_of};
+ghost use Rattle.console.specs.declared.exit_status.ExitStatus.TheVariants.{Done};
+ghost use Rattle.console.specs.ExitStatus.{code_of};
+
 use claim_gate::TermsFault;
+use console::ExitStatus;
 use console::names::{BALANCES, FILE};
 use diagnostics::{
     FileKind, Message, explain, explain_file, explain_record, memory, run_explanation,
     terms_explanation,
 };
 use intake_csv::BalanceFault;
+use orders::Stop;
 use std::alloc::{AllocError, Global};
-use value_command::{About, print_message, value_message};
+use value_command::{About, exit_status_of, print_message, value_message};
 
 /// What an explanation needs of a command over a plan and files.
 #[derive(Clone, Copy)]
@@ -39,6 +45,17 @@ impl<'a, 'w> AboutFiles<'a, 'w> {
             None => &[],
         }
     }
+}
+
+/// Prints an error of the library, and returns its status.
+pub fn refuse<R: Eprint + AllocGlobal>(rt: &R, about: &AboutFiles, stop: Stop) -> ExitStatus
+    ensures status { code_of result ≡ status_of stop }
+    ensures not_done { result ≢ Done }
+{
+    let answer = Err(stop);
+    let status = exit_status_of(rt, &answer);
+    explain_refusal(rt, about, &answer);
+    status
 }
 
 /// Prints the explanation of an error, if there is one and the caller wants it.

@@ -14,6 +14,7 @@ use clap::ArgMatches;
 use console::names::{BALANCES, FILE, SUMMARY};
 use console::{ExitStatus, no_memory};
 use diagnostics::unknown_keys;
+use plan_commands::print_lines;
 use remarks::Remarks;
 use std::alloc::AllocError;
 
@@ -106,12 +107,5 @@ pub fn print_unknown_keys<R: Eprint + AllocGlobal>(rt: &R, plan: &[u8]) {
         && let Ok(lines) = unknown_keys(rt.alloc(), text)
     {
         print_lines(rt, lines.as_str());
-    }
-}
-
-/// Prints these lines, if there are any.
-pub fn print_lines<R: Eprint>(rt: &R, lines: &str) {
-    if !lines.is_empty() {
-        let _ = rt.eprint(lines);
     }
 }

@@ -13,23 +13,25 @@ ghost use Rattle.commands.specs.Ends.{HasRemittance, IsStatusOfRefusal, IsStatus
 ghost use Rattle.commands.specs.Words.{AsksStrict, IsStrict};
 ghost use Rattle.commands.specs.Texts.{AreClosed, AreNamedBalances, AreNamedFiles, HasNamedTexts};
 
+use crate::detail::detail_of;
 use crate::explaining::{AboutFiles, explain_refusal};
+use crate::further::{about_without_explanation, further_place, put_further};
+use crate::noted::run_and_note;
 use crate::remarking::remark_on;
 use crate::strict::refuse_unused;
 use crate::summary::{has_refused_file, refused_files_of, summary_of};
 use crate::words::{cutoff_of, is_strict, order_of, workers_of};
-use adjudicate::{Counting, FILE_LIMIT_BYTES, Order, RunInput, ValueStop, do_counted_run};
+use adjudicate::{Counting, FILE_LIMIT_BYTES, Order, RunInput, do_counted_run};
 use clap::ArgMatches;
 use console::names::{BALANCES, CLOSING, FILE, SUMMARY};
-use console::{
-    AtomicFile, AtomicTarget, ExitStatus, Heartbeat, Sources, explains, input_once, no_memory,
-};
-use fixpoint::{Out, put_all};
+use console::{AtomicTarget, ExitStatus, Heartbeat, Sources, explains, input_once, no_memory};
+use fixpoint::Out;
 use std::alloc::{AllocError, Global};
 use std::io;
 use std::mem::forget;
 use std::rt::Files;
-use std::sync::Wait;
+use std::sync::atomic::AtomicU64;
+use std::sync::{Arc, Wait};
 use std::thread::Threads;
 use std::time::Clock;
 use value_command::{
@@ -119,15 +121,34 @@ where
         → IsRefusedRun matches.now texts.now result ⊎ IsStrict matches.now }
 {
     let heartbeat = if is_watched {
-        Heartbeat::start(rt)
+        Heartbeat::start(rt, records_in(&texts.files))
     } else {
         None
     };
-    let status = settle(rt, matches, texts, is_watched, explains);
+    let decided = match &heartbeat {
+        Some(heartbeat) => heartbeat.decided_count(),
+        None => None,
+    };
+    let status = settle(rt, matches, texts, is_watched, explains, decided);
     if let Some(heartbeat) = heartbeat {
         heartbeat.end(rt);
     }
     status
+}
+
+// The number of lines of the files without their headers, which is that of their records unless a field has line ends.
+fn records_in(files: &[Vec<u8>]) -> u64 {
+    let mut lines = 0u64;
+    for file in files {
+        let mut count = 0u64;
+        for byte in file.as_slice() {
+            if *byte == b'\n' {
+                count = count.saturating_add(1);
+            }
+        }
+        lines = lines.saturating_add(count.saturating_sub(1));
+    }
+    lines
 }
 
 fn settle<R>(
@@ -136,6 +157,7 @@ fn settle<R>(
     texts: &Texts,
     is_watched: bool,
     explains: bool,
+    decided: Option<Arc<AtomicU64, Global>>,
 ) -> ExitStatus
 where
     R: Files + Print + Eprint + AllocGlobal + Threads + Wait + Sync,
@@ -158,7 +180,8 @@ where
     };
     let has_summary = is_watched || matches.get_flag(SUMMARY);
     let about = texts.about(explains, matches);
-    run_anywhere(rt, &about, input, order_of(matches), has_summary)
+    let order = order_of(matches);
+    run_anywhere(rt, &about, input, order, has_summary, decided)
 }
 
 /// Runs, and then writes the closing balances to the file of `--closing` if there is one.
@@ -168,6 +191,7 @@ fn run_anywhere<R>(
     input: RunInput,
     order: Order,
     has_summary: bool,
+    decided: Option<Arc<AtomicU64, Global>>,
 ) -> ExitStatus
 where
     R: Files + Print + Eprint + AllocGlobal + Threads + Wait + Sync,
@@ -183,7 +207,14 @@ where
         Counting::nothing()
     };
     counting.leave_memory();
-    match closing_of(rt, about) {
+    if let Some(decided) = decided {
+        counting.count_decided(decided);
+    }
+    if about.plan.words.get_flag(SUMMARY) {
+        counting.request_sums();
+        counting.request_notes();
+    }
+    match further_place(rt, about, CLOSING) {
         Ok(Some(mut place)) => {
             counting.request_closing();
             run_and_close(
@@ -223,7 +254,7 @@ where
         Err(fault) => return report_unwritable(rt, &about_without_explanation(about), &fault),
     };
     match run_and_report(rt, about, input, order, counting, has_summary) {
-        ExitStatus::Done => put_closing(rt, about, place, text, counting),
+        ExitStatus::Done => put_further(rt, about, place, text, counting.closing()),
         status => {
             place.discard(text);
             status
@@ -248,7 +279,7 @@ where
         → IsStatusOfRun about.now.plan.words.now (run_texts input.entry)
         input.entry.workers result }
 {
-    match run_to_output(rt, about, input, order, counting) {
+    match run_and_note(rt, about, input, order, counting) {
         ExitStatus::Done => {
             report_counts(rt, about, counting, has_summary);
             strict_status(rt, about.plan.words, counting)
@@ -271,67 +302,8 @@ fn strict_status<R: Eprint>(rt: &R, matches: &ArgMatches<'_>, counting: &Countin
     }
 }
 
-// The file that the command line names for the closing balances, if it names one. If nothing can be
-// written there, an error line is printed, and its status is returned.
-fn closing_of<'a, R: Files + Eprint + AllocGlobal>(
-    rt: &'a R,
-    about: &AboutFiles,
-) -> Result<Option<AtomicFile<'a, R>>, ExitStatus>
-    ensures { IfErr result (λ status. status ≡ Resource) }
-{
-    let Some(path) = about.plan.words.get_str(CLOSING) else {
-        return Ok(None);
-    };
-    match AtomicFile::new(rt, path) {
-        Ok(place) => Ok(Some(place)),
-        Err(fault) => Err(report_unwritable(rt, &about_without_explanation(about), &fault)),
-    }
-}
-
-// Puts the closing balances into a place, which then has the whole text, or what it had before.
-fn put_closing<R: Eprint + AllocGlobal, P: AtomicTarget>(
-    rt: &R,
-    about: &AboutFiles,
-    place: &mut P,
-    text: P::Text,
-    counting: &Counting,
-) -> ExitStatus
-    ensures { (result ≡ Done) ⊎ (result ≡ Resource) }
-{
-    let Some(closing) = counting.closing() else {
-        place.discard(text);
-        return no_memory(rt);
-    };
-    let mut out = Out::new(text);
-    let answer = match put_all(closing, &mut out) {
-        Ok(()) => Ok(()),
-        Err(cut) => Err(ValueStop::Write {
-            written: cut.written,
-        }),
-    };
-    match commit_output(
-        rt,
-        &about_without_explanation(about),
-        place,
-        out.into_inner(),
-        &answer,
-    ) {
-        ExitStatus::Done => ExitStatus::Done,
-        _ => ExitStatus::Resource,
-    }
-}
-
-// An explanation would name the file of `--output`.
-fn about_without_explanation<'a, 'w>(about: &AboutFiles<'a, 'w>) -> About<'a, 'w> {
-    About {
-        explains: false,
-        words: about.plan.words,
-        plan: about.plan.plan,
-    }
-}
-
 #[tactic(auto, using(crate::proofs::Ends::put_is_text))]
-fn run_to_output<R>(
+pub fn run_to_output<R>(
     rt: &R,
     about: &AboutFiles,
     input: RunInput,
@@ -351,7 +323,8 @@ where
     }
 }
 
-// Without a summary, the files of which all records are refused are reported. If memory runs out for the lines, they are left out.
+// With `--summary` there are lines for each file and each reason first. Without a summary, the files of which all records are refused are reported. If
+// memory runs out for the lines, they are left out.
 fn report_counts<R: Eprint + AllocGlobal>(
     rt: &R,
     about: &AboutFiles,
@@ -361,6 +334,11 @@ fn report_counts<R: Eprint + AllocGlobal>(
     let Some(counts) = counting.counts() else {
         return;
     };
+    if about.plan.words.get_flag(SUMMARY)
+        && let Ok(lines) = detail_of(rt.alloc(), counting)
+    {
+        let _ = rt.eprint(lines.as_str());
+    }
     let lines = if has_summary {
         summary_of(rt.alloc(), counts, about)
     } else {

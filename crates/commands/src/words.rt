@@ -1,13 +1,11 @@
 //! The options of a command line.
 
 ghost use Rattle.std.specs.Prelude.{◌≡◌, IfSome, true};
-ghost use Rattle.commands.specs.Words.{AsksFail, AsksStrict, IsCutoff, IsFail, IsFindings, IsOrder, IsStrict, IsWhole, IsWorkers};
+ghost use Rattle.commands.specs.Words.{AsksStrict, IsCutoff, IsFindings, IsOrder, IsStrict, IsWhole, IsWorkers};
 
 use adjudicate::{Findings, Order};
 use clap::ArgMatches;
-use console::names::{
-    BY_FILES, BY_SERVICE, CUTOFF, ERRORS_ONLY, FAIL, ORDER, STRICT, WHOLE, WORKERS,
-};
+use console::names::{BY_FILES, BY_SERVICE, CUTOFF, ERRORS_ONLY, ORDER, STRICT, WHOLE, WORKERS};
 
 /// Whether unknown keys of the plan are errors.
 pub fn is_strict(matches: &ArgMatches<'_>) -> bool
@@ -22,14 +20,6 @@ pub fn is_whole(matches: &ArgMatches<'_>) -> bool
     ensures { IsWhole matches.now result }
 {
     matches.get_flag(WHOLE)
-}
-
-/// Whether the status is to be `Refused` where anything is reported.
-pub fn fails(matches: &ArgMatches<'_>) -> bool
-    ensures fail { result ≡ true → IsFail matches.now }
-    ensures asked { AsksFail matches.now → result ≡ true }
-{
-    matches.get_flag(FAIL)
 }
 
 /// Which gaps and overlaps a check lists.

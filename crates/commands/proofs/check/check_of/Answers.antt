@@ -1,5 +1,5 @@
 use Rattle.value_command.proofs.Ends.{unjudged_not_done, unjudged_not_refused}
-use Rattle.commands.proofs.WholePlans.{check_done}
+use Rattle.commands.proofs.Checks.{check_done}
 use Rattle.commands.proofs.check.check_of.Goals as goal
 
 pub returns-in-Err-clause-done : goal.returns-in-Err-clause-done

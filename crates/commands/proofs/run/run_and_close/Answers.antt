@@ -7,4 +7,4 @@ pub returns-in-Err-clause-refused : goal.returns-in-Err-clause-refused
 returns-in-Err-clause-refused g c = λ not_done. inl (refused_by_system (run_texts c.args.input) c.args.input.workers c.report_unwritable.result c.report_unwritable.ensures)
 
 pub returns-in-Done-clause-refused : goal.returns-in-Done-clause-refused
-returns-in-Done-clause-refused g c = λ not_done. inl (closing_refused (run_texts c.args.input) c.args.input.workers c.put_closing.result c.put_closing.ensures not_done)
+returns-in-Done-clause-refused g c = λ not_done. inl (closing_refused (run_texts c.args.input) c.args.input.workers c.put_further.result c.put_further.ensures not_done)

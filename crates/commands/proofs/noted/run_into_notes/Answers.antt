@@ -1,0 +1,9 @@
+use Rattle.adjudicate.specs.RunText.{run_texts}
+use Rattle.commands.proofs.Ends.{closing_refused, refused_by_system}
+use Rattle.commands.proofs.noted.run_into_notes.Goals as goal
+
+pub returns-in-Err-clause-refused : goal.returns-in-Err-clause-refused
+returns-in-Err-clause-refused g c = λ not_done. refused_by_system (run_texts c.args.input) c.args.input.workers c.report_unwritable.result c.report_unwritable.ensures
+
+pub returns-in-Done-clause-refused : goal.returns-in-Done-clause-refused
+returns-in-Done-clause-refused g c = λ not_done. closing_refused (run_texts c.args.input) c.args.input.workers c.put_further.result c.put_further.ensures not_done
