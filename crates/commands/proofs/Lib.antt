@@ -4,3 +4,4 @@ pub mod Explanations
 pub mod Named
 pub mod Ordered
 pub mod Checks
+pub mod CommandEnds
