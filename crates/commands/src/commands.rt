@@ -67,7 +67,6 @@ where
     }
 }
 
-#[tactic(auto, using(crate::proofs::CommandEnds::check_ends, crate::proofs::CommandEnds::check_ends_refused, crate::proofs::CommandEnds::run_ends, crate::proofs::CommandEnds::run_ends_refused, crate::proofs::CommandEnds::audit_ends, crate::proofs::CommandEnds::audit_ends_refused, crate::proofs::CommandEnds::explain_ends, crate::proofs::CommandEnds::explain_ends_refused, crate::proofs::CommandEnds::compare_ends, crate::proofs::CommandEnds::compare_ends_refused, crate::proofs::CommandEnds::plan_ends, crate::proofs::CommandEnds::plan_ends_refused))]
 fn command<R, S: Sources>(
     rt: &R,
     sources: &S,
