@@ -3,13 +3,14 @@
 ghost use Rattle.std.specs.Prelude.{◌≡◌, ◌∷◌, [], true, IfOk};
 ghost use Rattle.clap.specs.Words.{parser_of};
 ghost use Rattle.clap.specs.declared.builder.value_parser.ValueParser.TheVariants.{Unsigned};
-ghost use Rattle.console.specs.Limits.{TakesWords, cutoff_limit};
+ghost use Rattle.console.specs.Limits.{TakesWords, cutoff_limit, least_width, width_limit};
 
 use crate::names::{
     AS_CSV, AS_TEXT, ASSIGNMENT, BALANCES, BY_FILES, BY_SERVICE, CASES, CLAIM_ID, CLAIMS, CLOSING,
-    CUTOFF, ERRORS_ONLY, EXPLAINED, FAIL, FAMILY, FILE, FORMAT, MEMBER, NARROWED, NOTES, OLD,
-    OPENING, ORDER, OUTPUT, PLAN, RECORD, REMITTANCE, RENAMED, WHOLE, WORKERS,
+    CUTOFF, ERRORS_ONLY, EXPLAINED, FAIL, FAMILY, FILE, FORMAT, HTML, MEMBER, NARROWED, NOTES, OLD,
+    OPENING, ORDER, OUTPUT, PLAN, RECORD, REMITTANCE, RENAMED, ROWS, WHOLE, WIDTH, WORKERS,
 };
+use crate::terminal::{LEAST_WIDTH, WIDTH_LIMIT};
 use clap::builder::ValueParser;
 use clap::{Arg, ArgAction, ArgGroup};
 use std::alloc::{AllocError, Global};
@@ -50,6 +51,15 @@ pub fn assignment_argument<'a>(alloc: Global) -> Arg<'a> {
         .help("A value for an input of the plan, such as age=42")
         .action(ArgAction::Append)
         .num_args(0..)
+}
+
+/// The file whose rows are evaluated, for `value`.
+pub fn rows_argument<'a>(alloc: Global) -> Result<Arg<'a>, AllocError> {
+    Arg::new(alloc, ROWS)
+        .long("rows")
+        .value_name("FILE")
+        .help("Evaluate the rows of FILE, CSV, and print them with the outputs as further columns")
+        .conflicts_with(ASSIGNMENT)
 }
 
 /// The file for the results, in place of standard output.
@@ -123,11 +133,29 @@ pub fn old_plan_argument<'a>(alloc: Global) -> Arg<'a>
 }
 
 /// The plan that the new plan is compared with, as an option of `show`.
-pub fn compared_argument<'a>(alloc: Global) -> Arg<'a> {
+pub fn compared_argument<'a>(alloc: Global) -> Result<Arg<'a>, AllocError> {
     Arg::new(alloc, OLD)
         .long("compare")
         .value_name("OLD")
-        .help("Mark what differs from this plan")
+        .help("With --html, mark what differs from this plan")
+        .requires_arg(HTML)
+}
+
+/// The width of lines, in columns. The default is that of the terminal, if it is known; its text must be a value of the option.
+pub fn width_argument<'a>(alloc: Global, terminal: Option<&'a str>) -> Result<Arg<'a>, AllocError>
+    ensures { IfOk result (λ arg. parser_of arg ≡ Unsigned least_width width_limit) }
+{
+    let width = Arg::new(alloc, WIDTH)
+        .long("width")
+        .value_name("N")
+        .value_parser(ValueParser::unsigned(LEAST_WIDTH, WIDTH_LIMIT))
+        .hide_default_value(true)
+        .help("Lines of at most N columns; the default is the terminal's width, or 100")
+        .conflicts_with(HTML)?;
+    match terminal {
+        Some(columns) => Ok(width.default_value(columns)),
+        None => Ok(width),
+    }
 }
 
 /// The fields that the new plan names otherwise.

@@ -9,8 +9,8 @@ use crate::arguments::{
     compared_argument, compared_files_argument, cutoff_argument, explained_argument,
     explained_group, fail_argument, files_argument, flag_argument, format_argument,
     narrowed_argument, notes_argument, old_plan_argument, order_argument, output_argument,
-    plan_argument, record_argument, remittance_argument, renamed_argument, whole_argument,
-    workers_argument,
+    plan_argument, record_argument, remittance_argument, renamed_argument, rows_argument,
+    whole_argument, width_argument, workers_argument,
 };
 use crate::names::{
     AUDIT, CHECK, CLAIM_ID, COMPARE, ERRORS_ONLY, EXPLAIN, EXPLAIN_RECORD, FAIL, FAMILY, HTML,
@@ -24,16 +24,21 @@ use clap::{Arg, ArgMatches, Command, Error};
 use std::alloc::{AllocError, Global};
 
 /// Parses the words of a command line, of which the first is the program's name. The error is one of usage, or asks for help or the version, or is
-/// out of memory. `workers_limit` is the greatest value of `--workers`.
+/// out of memory. `workers_limit` is the greatest value of `--workers`, and `terminal` the terminal's width, as `terminal_columns` returns it.
 pub fn matches_of<'a>(
     alloc: Global,
     words: &'a [String],
     workers_limit: usize,
+    terminal: Option<&'a str>,
 ) -> Result<ArgMatches<'a>, Error> {
-    command_line(alloc, workers_limit)?.try_get_matches_from(words)
+    command_line(alloc, workers_limit, terminal)?.try_get_matches_from(words)
 }
 
-fn command_line<'a>(alloc: Global, workers_limit: usize) -> Result<Command<'a>, AllocError>
+fn command_line<'a>(
+    alloc: Global,
+    workers_limit: usize,
+    terminal: Option<&'a str>,
+) -> Result<Command<'a>, AllocError>
     ensures { IfOk result (λ line. subcommand_names line
         ≡ VALUE.now ∷ CHECK.now ∷ RUN.now ∷ AUDIT.now ∷ EXPLAIN_RECORD.now ∷ TEST.now
         ∷ COMPARE.now ∷ NAMES.now ∷ SHOW.now ∷ []) }
@@ -46,7 +51,7 @@ fn command_line<'a>(alloc: Global, workers_limit: usize) -> Result<Command<'a>, 
     let line = with_command(line, test_command(alloc))?;
     let line = with_command(line, compare_command(alloc))?;
     let line = with_command(line, names_command(alloc))?;
-    with_command(line, show_command(alloc))
+    with_command(line, show_command(alloc, terminal))
 }
 
 fn bare_line<'a>(alloc: Global) -> Result<Command<'a>, AllocError>
@@ -78,9 +83,11 @@ fn value_command<'a>(alloc: Global) -> Result<Command<'a>, AllocError>
     ensures { IfOk result (λ command. (fields_of command).name.now ≡ VALUE.now) }
 {
     let about = "Evaluate the plan's decision tables for the given values, and print the outputs";
+    let rows = rows_argument(alloc)?;
     let arguments = vec![in alloc;
         plan_argument(alloc),
         assignment_argument(alloc),
+        rows,
         output_argument(alloc),
     ]?;
     command_of(alloc, VALUE, about, value_example(), arguments)
@@ -222,15 +229,18 @@ fn names_command<'a>(alloc: Global) -> Result<Command<'a>, AllocError>
     command_of(alloc, NAMES, about, names_example(), arguments)
 }
 
-fn show_command<'a>(alloc: Global) -> Result<Command<'a>, AllocError>
+fn show_command<'a>(alloc: Global, terminal: Option<&'a str>) -> Result<Command<'a>, AllocError>
     ensures { IfOk result (λ command. (fields_of command).name.now ≡ SHOW.now) }
 {
     let about = "Show the plan's decision tables, for people who do not read TOML";
     let html = "Print a page in HTML";
+    let compared = compared_argument(alloc)?;
+    let width = width_argument(alloc, terminal)?;
     let arguments = vec![in alloc;
         plan_argument(alloc),
         flag_argument(alloc, HTML, "html", html),
-        compared_argument(alloc),
+        compared,
+        width,
         output_argument(alloc),
     ]?;
     command_of(alloc, SHOW, about, show_example(), arguments)

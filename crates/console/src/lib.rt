@@ -3,7 +3,7 @@
 //! Begin with `command.rt`, the command line for `clap`; `arguments.rt` has the arguments, `names.rt` the names of their values, `texts.rt` the
 //! help after them, and `words.rt` the words that the caller gave. `sources.rt` finds texts by their names, and `files.rt` reads them.
 //! `exit_status.rt` has the exit statuses and prints error lines, `heartbeat.rt` prints progress lines during long work, and
-//! `stack.rt` takes room for the stack.
+//! `stack.rt` takes room for the stack. `terminal.rt` has the width of the terminal.
 //!
 //! `atomic_target.rt` has the contract of a place whose text is replaced atomically, and `atomic_file.rt` implements it for the system's files: it
 //! writes a new file in the same folder, syncs it to the device, and renames it. `outputs.rt` refuses an output that the command also reads,
@@ -22,6 +22,7 @@ mod outputs;
 mod paths;
 mod sources;
 mod stack;
+mod terminal;
 mod texts;
 mod unfinished;
 mod words;
@@ -35,5 +36,6 @@ pub use heartbeat::Heartbeat;
 pub use outputs::prepare_outputs;
 pub use sources::{FileSource, FileSources, Sources};
 pub use stack::grow_stack;
+pub use terminal::terminal_columns;
 pub use unfinished::FolderLocks;
 pub use words::{explains, input_once, program_arguments};

@@ -57,6 +57,9 @@ pub const REMITTANCE: &str = "REMITTANCE";
 /// The file of tests.
 pub const CASES: &str = "CASES";
 
+/// The file whose rows are evaluated.
+pub const ROWS: &str = "ROWS";
+
 /// The plan that another one is compared with.
 pub const OLD: &str = "OLD";
 
@@ -77,6 +80,9 @@ pub const OPENING: &str = "OPENING";
 
 /// The flag for a page in HTML.
 pub const HTML: &str = "HTML";
+
+/// The width of lines.
+pub const WIDTH: &str = "WIDTH";
 
 /// The file for the notes on records that need a person.
 pub const NOTES: &str = "NOTES";

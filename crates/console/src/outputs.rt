@@ -5,7 +5,7 @@ ghost use Rattle.console.specs.declared.exit_status.ExitStatus.TheVariants.{Usag
 ghost use Rattle.console.specs.ExitStatus.{IsUnjudged};
 
 use crate::exit_status::{ExitStatus, no_memory, print_error};
-use crate::names::{BALANCES, CASES, CLOSING, FILE, NOTES, OLD, OUTPUT, PLAN, STREAM};
+use crate::names::{BALANCES, CASES, CLOSING, FILE, NOTES, OLD, OUTPUT, PLAN, ROWS, STREAM};
 use crate::paths::{is_same_file, is_same_new_file};
 use crate::unfinished::{FolderLocks, lock_folders};
 use clap::{ArgMatches, Error};
@@ -86,7 +86,7 @@ fn is_taken<R: Files + AllocGlobal>(
 }
 
 fn is_input<R: Files>(files: &R, words: &ArgMatches<'_>, path: &str) -> bool {
-    for name in [PLAN, OLD, BALANCES, CASES] {
+    for name in [PLAN, OLD, BALANCES, CASES, ROWS] {
         if let Some(input) = words.get_str(name)
             && is_file_of(files, path, input)
         {

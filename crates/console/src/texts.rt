@@ -6,7 +6,10 @@ pub fn value_example() -> &'static str {
 
 An argument is a name, `=`, and an S-FEEL literal: 12.5, \"A\", true or
 date(\"2024-02-29\"). Quote it for the shell. After `--` an argument can begin
-with `-`."
+with `-`.
+
+With --rows the values come from a CSV file, whose first record names the
+columns, and the outputs and a fault follow the fields of each row."
 }
 
 pub fn check_example() -> &'static str {

@@ -5,7 +5,7 @@ ghost use Rattle.console.specs.declared.exit_status.ExitStatus.TheVariants.{Usag
 ghost use Rattle.console.specs.ExitStatus.{IsUnjudged};
 
 use crate::exit_status::{ExitStatus, no_memory, print_error};
-use crate::names::{BALANCES, CASES, EXPLAIN, FILE, OLD, PLAN, REMITTANCE, STREAM};
+use crate::names::{BALANCES, CASES, EXPLAIN, FILE, OLD, PLAN, REMITTANCE, ROWS, STREAM};
 use clap::ArgMatches;
 use std::rt::Env;
 use std::{env, io};
@@ -47,7 +47,7 @@ pub fn input_once<R: Eprint>(rt: &R, matches: &ArgMatches<'_>) -> Result<(), Exi
 
 fn times_of_input(matches: &ArgMatches<'_>) -> usize {
     let mut times = 0_usize;
-    for name in [PLAN, OLD, BALANCES, REMITTANCE, CASES] {
+    for name in [PLAN, OLD, BALANCES, REMITTANCE, CASES, ROWS] {
         times = times.saturating_add(times_in(matches.get_str(name)));
     }
     for path in matches.get_strs(FILE).unwrap_or(&[]) {
