@@ -6,7 +6,7 @@ ghost use Rattle.value_command.specs.Ends.{IsDone, IsRefused, NamesValue, ValueI
 
 use crate::value::value_of;
 use clap::{ArgMatches, Error};
-use console::names::VALUE;
+use console::names::{ROWS, VALUE};
 use console::{
     ExitStatus, Sources, explains, grow_stack, matches_of, no_memory, prepare_outputs, print_error,
     program_arguments, usage,
@@ -16,7 +16,7 @@ use std::rt::{Env, Files};
 use std::time::Clock;
 
 /// Runs the command line over these texts, and returns the exit status. Help and the version are those of the whole program. A command other than
-/// `value` is a usage error.
+/// `value` is a usage error, and so is its option for a file of rows.
 pub fn status<R, S: Sources>(rt: &R, sources: &S, is_watched: bool) -> ExitStatus
 where
     R: Env + Files<File = File> + Print + Eprint + AllocGlobal + Clock,
@@ -28,8 +28,8 @@ where
     if grow_stack(rt.alloc(), words.len()).is_err() {
         return no_memory(rt);
     }
-    // This program has no `run`, so it needs no limit on workers.
-    let matched = matches_of(rt.alloc(), words.as_slice(), usize::MAX);
+    // This program has no `run`, so it needs no limit on workers, and no `show`, so it needs no width of the terminal.
+    let matched = matches_of(rt.alloc(), words.as_slice(), usize::MAX, None);
     let locks = match prepare_outputs(rt, &matched, is_watched) {
         Ok(locks) => locks,
         Err(status) => return status,
@@ -71,11 +71,28 @@ where
         ValueIsRefused (S.whole sources.now) words result) }
 {
     match matches.subcommand_matches(VALUE) {
-        Some(words) => value_of(rt, sources, words, explains(words, is_watched)),
+        Some(words) => value_alone(rt, sources, words, is_watched),
         None => print_error(
             rt,
             "error: this program has only the command `value`",
             ExitStatus::Usage,
         ),
     }
+}
+
+/// Runs the command `value` without its option for a file of rows.
+fn value_alone<R: Files + Print + Eprint + AllocGlobal, S: Sources>(
+    rt: &R,
+    sources: &S,
+    words: &ArgMatches<'_>,
+    is_watched: bool,
+) -> ExitStatus
+    ensures done { result ≡ Done → ValueIsDone (S.whole sources.now) words.now }
+    ensures refused { result ≡ Refused → ValueIsRefused (S.whole sources.now) words.now result }
+{
+    if words.get_str(ROWS).is_some() {
+        let line = "error: this program has no option `--rows`: only the whole program has it";
+        return print_error(rt, line, ExitStatus::Usage);
+    }
+    value_of(rt, sources, words, explains(words, is_watched))
 }
