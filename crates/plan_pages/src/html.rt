@@ -1,5 +1,6 @@
 //! A plan as a page in HTML that needs nothing else: no script, and no style, font or picture from elsewhere.
 
+use crate::findings::{Findings, RuleNumber, TestNumber, put_dead};
 use crate::html_table::{put_list, put_removed_tables, put_table};
 use crate::names::{names_sheet, roles_sheet};
 use crate::page::{Page, Part};
@@ -10,7 +11,7 @@ use crate::style::{page_begin, page_end, page_style};
 use crate::words::reason_meaning;
 use faults::Reason;
 use std::alloc::{AllocError, Global};
-use tables::Plan;
+use tables::{Plan, Table};
 
 /// The number of values that are listed for a table.
 const LISTED: usize = 20;
@@ -27,18 +28,13 @@ pub struct Shown<'s> {
     /// The values with which they do.
     pub values: &'s str,
     /// The rules that never give an answer.
-    pub dead: &'s [RuleNumber],
+    pub dead_rules: &'s [RuleNumber],
+    /// The tests of cells that hold for no value.
+    pub dead_tests: &'s [TestNumber],
     /// The plan with which this one is compared.
     pub old: Option<&'s Plan>,
     /// What is said of the comparison, in lines.
     pub changes: &'s str,
-}
-
-/// A rule by the number of its table and its own, both from 1.
-#[derive(Clone, Copy)]
-pub struct RuleNumber {
-    pub table: usize,
-    pub rule: usize,
 }
 
 /// The lists after the tables of a page.
@@ -50,7 +46,11 @@ enum List {
 }
 
 /// Returns a plan as a page in HTML. Fails only if memory runs out.
-pub fn plan_html(alloc: Global, plan: &Plan, shown: &Shown<'_>) -> Result<Vec<u8>, AllocError> {
+pub fn plan_html<'s>(
+    alloc: Global,
+    plan: &'s Plan,
+    shown: &Shown<'s>,
+) -> Result<Vec<u8>, AllocError> {
     let mut page = Page::new(alloc);
     put_head(&mut page, plan, shown);
     put_changes(&mut page, shown);
@@ -140,18 +140,38 @@ fn list_sheet(alloc: Global, plan: &Plan, list: List) -> Sheet {
     }
 }
 
-fn put_tables(page: &mut Page, plan: &Plan, shown: &Shown<'_>) {
+fn put_tables<'s>(page: &mut Page, plan: &'s Plan, shown: &Shown<'s>) {
     page.put("<h2 id=\"tables\">Decision tables</h2>\n");
     for (place, table) in plan.tables().iter().enumerate() {
-        let number = place.saturating_add(1);
-        put_table(page, plan, shown.old, number, table);
-        put_notes(page, shown, number);
-        put_dead_rules(page, shown.dead, number);
+        let findings = findings_of(shown, place.saturating_add(1), table);
+        put_table(page, plan, shown.old, findings, table);
+        put_notes(page, shown, findings.table);
+        put_dead(page, findings, table);
         page.put("</section>\n");
     }
     if let Some(old) = shown.old {
         put_removed_tables(page, plan, old);
     }
+}
+
+/// Returns what is found of the table with this number.
+fn findings_of<'s>(shown: &Shown<'s>, number: usize, table: &'s Table) -> Findings<'s> {
+    Findings {
+        table: number,
+        rules: table.rules.as_slice(),
+        dead_rules: shown.dead_rules,
+        dead_tests: shown.dead_tests,
+        pends: has_reason(shown.reasons, number),
+    }
+}
+
+fn has_reason(reasons: &[Reason], table: usize) -> bool {
+    for reason in reasons {
+        if table_of(*reason) == table {
+            return true;
+        }
+    }
+    false
 }
 
 /// Writes at which values claims pend by a table with this number, or by a role if the number is 0.
@@ -178,24 +198,15 @@ fn put_notes(page: &mut Page, shown: &Shown<'_>, table: usize) {
 
 fn put_note(page: &mut Page, reason: Reason, values: &str, before: usize) {
     if before == 0 {
-        page.put("<div class=\"notes\">\n<p>Claims with these values pend:</p>\n<ul>\n");
+        page.fill(
+            "<div class=\"notes\" id=\"pends-{}\">\n<p>Claims with these values pend:</p>\n<ul>\n",
+            &[Part::Number(table_of(reason))],
+        );
     }
     if before < LISTED {
         page.put("<li>");
         put_reason(page, reason);
         page.fill("<code>{}</code></li>\n", &[Part::Words(values)]);
-    }
-}
-
-/// Writes the rules of a table that never give its answer.
-fn put_dead_rules(page: &mut Page, dead: &[RuleNumber], table: usize) {
-    for place in dead {
-        if place.table == table {
-            page.fill(
-                "<p class=\"notes\"><span class=\"tag pend\">dead</span> Rule {} never gives the answer, whatever a claim has.</p>\n",
-                &[Part::Number(place.rule)],
-            );
-        }
     }
 }
 

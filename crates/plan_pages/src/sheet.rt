@@ -120,7 +120,8 @@ fn put_tests(page: &mut Page, tests: &[Test]) {
     }
 }
 
-fn put_test(page: &mut Page, test: &Test) {
+/// Appends a test of a cell.
+pub fn put_test(page: &mut Page, test: &Test) {
     match test {
         Test::Equal(value) => page.put_value(value),
         Test::Compare(sign, value) => {

@@ -72,6 +72,7 @@ thead tr:last-child th { min-width: 7rem; }
 .gone, del { color: var(--gone); background: var(--gone-back); }
 tr.gone td, tr.gone th { background: var(--gone-back); }
 tr.new td, tr.new th { background: var(--new-back); }
+tr.dead td, tr.dead th { background: var(--pend-back); }
 ins { text-decoration: none; font-weight: 600; }
 .notes { border-left: 4px solid var(--pend); background: var(--pend-back); padding: .75rem 1rem; margin: 1rem 0; }
 .notes p, p.notes { max-width: none; }
