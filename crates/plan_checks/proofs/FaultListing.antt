@@ -1,9 +1,7 @@
 -- The boxes of zones in which the tables have faults are right for the values in them.
-use Rattle.std.proofs.Common.{◌≡◌, ℕ, List, [], length, map, Option, Some, None, Result, Ok, Err, IfErr, IfOk, ap, sym, ◌∙◌, subst}
-use Rattle.std.specs.Prelude.{◌↔◌}
+use Rattle.std.proofs.Common.{◌≡◌, ℕ, List, [], length, Option, Some, None, Result, Ok, Err, IfErr, IfOk, ap, sym, ◌∙◌, subst}
 use Rattle.std.specs.Option.{option_map, option_map_or}
 use Rattle.std.proofs.lemmas.Result.{IfErr-weaker, IfOk-weaker}
-use Rattle.feel_tests.specs.declared.value.Value.{Value}
 use Rattle.faults.specs.declared.fault.Fault.{Fault}
 use Rattle.faults.specs.declared.reason.Reason.{Reason}
 use Rattle.faults.specs.Reason.{reason_of}

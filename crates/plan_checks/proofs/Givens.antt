@@ -1,5 +1,5 @@
 -- The values that the fields of a row give, column by column.
-use Rattle.std.proofs.Common.{◌≡◌, ◌≢◌, ◌<◌, ◌+◌, ◌&&◌, ◌||◌, ℕ, zero, suc, Bool, true, List, [], ◌∷◌, length, Option, Some, None, is_some, get_or, slice_get, inl, inr, refl, sym, ap, subst, ◌∙◌, below_more, arith}
+use Rattle.std.proofs.Common.{◌≡◌, ◌≢◌, ◌<◌, ◌+◌, ◌&&◌, ◌||◌, ℕ, zero, suc, List, [], ◌∷◌, length, Option, Some, None, is_some, get_or, slice_get, inl, inr, refl, sym, ap, subst, ◌∙◌, below_more, arith}
 use Rattle.std.specs.Option.{option_map, option_and_then}
 use Rattle.std.proofs.lemmas.Bool.{cases_eq}
 use Rattle.std.proofs.lemmas.Option.{none-some, same_Some, slice_get-get_or}
@@ -13,10 +13,9 @@ use Rattle.tables.specs.Inputs.{IsReady, Takes, empty_slots, fill_slot, kind_at,
 use Rattle.tables.specs.Plan.{PlanParts}
 use Rattle.evaluation.proofs.Givens.{Gives-none}
 use Rattle.plan_checks.specs.declared.columns.Column.{Column}
-use Rattle.plan_checks.specs.declared.columns.Use.{Use}
 use Rattle.plan_checks.specs.declared.columns.Use.TheVariants.{Given}
-use Rattle.plan_checks.specs.Columns.{AreApart, GivesNeeded, IsGivenBy, gives_place, is_of_claim, settles}
-use Rattle.plan_checks.specs.Given.{GivesBelow, GivesRow, IsReadAt, IsUnreadAt, IsUnreadField, IsValueAt}
+use Rattle.plan_checks.specs.Columns.{AreApart, GivesNeeded, GivesRead, IsGivenBy, is_of_claim, settles}
+use Rattle.plan_checks.specs.Given.{AreReadBefore, GivesBelow, IsFieldOf, GivesRow, IsReadAt, IsUnreadAt, IsUnreadField, IsValueAt}
 use Rattle.plan_checks.proofs.HeaderColumns.{given_at}
 use Rattle.plan_checks.proofs.RowLists.{set_same, set_other}
 
@@ -110,10 +109,14 @@ gives_next end names columns fields given place kind value apart before by is of
       used_same : (one other : ℕ) → Some (Given one) ≡ Some (Given other) → one ≡ other
       used_same one other e = cc e
 
+-- the columns give each name that a table reads if they give each one that is needed
+pub gives_read : (plan : PlanParts) (columns : List Column) → GivesNeeded plan columns → GivesRead plan columns
+gives_read plan columns needed = λ place read. needed place (ap (λ b. b || (settles plan columns && is_of_claim plan place)) read)
+
 -- the values of a row suffice for the tables
-pub row_is_ready : (plan : PlanParts) (columns : List Column) (fields : Fields) (given : List Slot) → GivesNeeded plan columns → GivesRow plan.names columns fields given → IsReady plan.tables given
-row_is_ready plan columns fields given needed gives = λ place read.
-    let at = given_at columns place (needed place (ap (λ b. b || (settles plan columns && is_of_claim plan place)) read)) in
+pub row_is_ready : (plan : PlanParts) (columns : List Column) (fields : Fields) (given : List Slot) → GivesRead plan columns → GivesRow plan.names columns fields given → IsReady plan.tables given
+row_is_ready plan columns fields given reads gives = λ place read.
+    let at = given_at columns place (reads place read) in
     let value = gives.each at.column place at.within at.by in
     ap is_some value.found
 
@@ -134,6 +137,16 @@ pub unread_at : (names : List InputData) (columns : List Column) (fields : Field
 unread_at names columns fields index place kind by is unread =
     let there = input_there names place kind is in
     record { place = place; given = by; input = there.0; named = there.1; unread = subst (λ k. IsUnreadField k fields index) (sym there.2) unread }
+
+-- the fields that gave values denote them
+pub read_before : (names : List InputData) (columns : List Column) (fields : Fields) (given : List Slot) (index : ℕ) → GivesBelow index names columns fields given
+    → AreReadBefore names columns fields index
+read_before names columns fields given index below = λ earlier within unread.
+    let r = below.each earlier unread.place within unread.given in
+    let same = same_Some r.input unread.input (sym r.named ∙ unread.named) in
+    let also = same_Some r.read.0 unread.unread.0 (sym r.read.1 ∙ unread.unread.1) in
+    let here : IsFieldOf r.input.kind unread.unread.0 r.value = subst (λ f. IsFieldOf r.input.kind f r.value) also r.read.2 in
+    unread.unread.2 r.value (subst (λ (d : InputData). IsFieldOf d.kind unread.unread.0 r.value) same here)
 
 -- a column that gives a name is one of the columns
 pub given_within : (columns : List Column) (column place : ℕ) → IsGivenBy columns column place → column < length columns

@@ -1,12 +1,11 @@
 -- The columns of a header, one after another.
-use Rattle.std.proofs.Common.{◌≡◌, ◌≢◌, ◌<◌, ◌≤◌, ◌+◌, ◌⊎◌, inl, inr, ℕ, zero, suc, Bool, true, false, cond, ◌==◌, List, [], ◌∷◌, ◌++◌, length, nat_lt, take, drop, get_or, Option, Some, None, IsSome, IsTrue, slice_get, refl, sym, ap, subst, ◌∙◌, arith}
+use Rattle.std.proofs.Common.{◌≡◌, ◌≢◌, ◌<◌, ◌≤◌, ◌+◌, ◌⊎◌, inl, inr, ℕ, zero, suc, Bool, true, false, List, [], ◌∷◌, ◌++◌, length, nat_lt, take, drop, get_or, Option, Some, None, IsSome, IsTrue, slice_get, refl, sym, ap, subst, ◌∙◌, arith}
 use Rattle.std.specs.Prelude.{find}
-use Rattle.std.specs.List.{AllZip, list_any, position}
+use Rattle.std.specs.List.{AllZip, position}
 use Rattle.std.specs.Option.{option_map}
 use Rattle.std.specs.Str.{bytes_eq}
 use Rattle.std.proofs.lemmas.Bool.{false≢true, and_parts, cases_Bool, ltb-true}
 use Rattle.std.proofs.lemmas.Bool.Decides.{Decides-eqb}
-use Rattle.std.proofs.Math.Seq.{take-length}
 use Rattle.std.proofs.lemmas.List.{length-take-le, take-append-drop, take_more}
 use Rattle.std.proofs.lemmas.List.Quantifiers.{position-Some}
 use Rattle.std.proofs.lemmas.Option.{same_Some, none-some}
@@ -21,10 +20,10 @@ use Rattle.tables.specs.Plan.{IsPlan, PlanParts}
 use Rattle.tables.proofs.NeededNames.{within_names}
 use Rattle.plan_checks.specs.declared.columns.Column.{Column}
 use Rattle.plan_checks.specs.declared.columns.Use.{Use}
-use Rattle.plan_checks.specs.declared.columns.Use.TheVariants.{Given, Expected, Settled, Fault}
+use Rattle.plan_checks.specs.declared.columns.Use.TheVariants.{Given, Expected, Settled, Fault, Carried}
 use Rattle.plan_checks.specs.declared.part.Part.{Part}
 use Rattle.plan_checks.specs.Parts.{is_part_name, parts}
-use Rattle.plan_checks.specs.Columns.{AreApart, AreColumns, AreOfNames, IsColumn, IsColumnAt, IsGivenBy, IsUnknownAt, expected_use, fault_use, fault_word, gives, gives_place, is_needed, is_of_claim, is_output, is_repeated, settled_use, settles, use_of}
+use Rattle.plan_checks.specs.Columns.{AreApart, AreOfNames, IsColumn, IsColumnAt, IsGivenBy, IsUnknownAt, expected_use, fault_use, fault_word, gives, gives_place, is_needed, is_of_claim, is_output, is_repeated, settled_use, settles, use_of, use_or}
 use Rattle.plan_checks.specs.Filing.{first_accumulator, member_place}
 use Rattle.plan_checks.specs.Stop.{IsRepeatedColumn, IsUnknownColumn}
 use Rattle.plan_checks.proofs.RowLists.{some_passes, none_passes}
@@ -56,11 +55,23 @@ first_given : (found : Option ℕ) (rest : Option Use) (place : ℕ) → rest �
 first_given None rest place none is = absurd (none is)
 first_given (Some other) rest place none is = let same : other ≡ place = cc is in ap Some same
 
--- a name that gives a value is one of the plan's names
-pub given_name : (plan : PlanParts) (name : List ℕ) (place : ℕ) → use_of plan name ≡ Some (Given place) → IsSome (slice_get plan.names place)
-given_name plan name place is =
+-- the use of a name that was looked up
+module _ (plan : PlanParts) (name : List ℕ) (other : Option Use) (found : Option ℕ) (looked : found ≡ position (λ (d : InputData). bytes_eq d.name name) plan.names) where
+  use_by : or_else (option_map Given found) other ≡ use_or plan name other
+  use_by = ap (λ f. or_else (option_map Given f) other) looked
+
+  pub use_given : (place : ℕ) → found ≡ Some place → Some (Given place) ≡ use_or plan name other
+  use_given place is = ap (λ f. or_else (option_map Given f) other) (sym is) ∙ use_by
+
+  pub use_other : (used : Option Use) → found ≡ None → used ≡ other → used ≡ use_or plan name other
+  use_other used none same = same ∙ ap (λ f. or_else (option_map Given f) other) (sym none) ∙ use_by
+
+-- a name that gives a value is one of the plan's names, whatever other names are for
+pub given_or : (plan : PlanParts) (name : List ℕ) (other : Option Use) (place : ℕ) → other ≢ Some (Given place) → use_or plan name other ≡ Some (Given place)
+    → IsSome (slice_get plan.names place)
+given_or plan name other place none is =
     let test : InputData → Bool = λ d. bytes_eq d.name name in
-    let found : position test plan.names ≡ Some place = first_given (position test plan.names) (expected_use plan name) place (expected_gives_none plan name place) is in
+    let found : position test plan.names ≡ Some place = first_given (position test plan.names) other place none is in
     within_some plan.names test place found where
       some_at : {A : Type 0} (xs : List A) (i : ℕ) → i < length xs → IsSome (slice_get xs i)
       some_at [] i within = absurd (omega (arith, within))
@@ -70,6 +81,10 @@ given_name plan name place is =
       within_some : (names : List InputData) (test : InputData → Bool) (i : ℕ) → position test names ≡ Some i → IsSome (slice_get names i)
       within_some [] test i found = absurd (cc found)
       within_some (d ∷ ds) test i found = some_at (d ∷ ds) i (position-Some test (d ∷ ds) i d found).0
+
+-- a name that gives a value is one of the plan's names
+pub given_name : (plan : PlanParts) (name : List ℕ) (place : ℕ) → use_of plan name ≡ Some (Given place) → IsSome (slice_get plan.names place)
+given_name plan name place is = given_or plan name (expected_use plan name) place (expected_gives_none plan name place) is
 
 -- the name of a column that gives a value
 pub record NamedBy (plan : PlanParts) (names : Fields) (column place : ℕ) : Type 0 where
@@ -122,6 +137,7 @@ fresh_place columns (Given p) place column fresh is = let same : p ≡ place = c
 fresh_place columns Expected place column fresh is = absurd (cc is)
 fresh_place columns (Settled part) place column fresh is = absurd (cc is)
 fresh_place columns Fault place column fresh is = absurd (cc is)
+fresh_place columns Carried place column fresh is = absurd (cc is)
 
 -- one more column that gives no name again
 pub apart_pushed : (columns : List Column) (c : Column) → AreApart columns → is_repeated columns c.used ≡ false → AreApart (columns ++ c ∷ [])
@@ -148,6 +164,7 @@ given_use (Given other) place same = ap Given ((Decides-eqb other place).0 same)
 given_use Expected place same = absurd (false≢true same)
 given_use (Settled part) place same = absurd (false≢true same)
 given_use Fault place same = absurd (false≢true same)
+given_use Carried place same = absurd (false≢true same)
 
 -- a column that gives the name at an index
 pub record GivenAt (columns : List Column) (place : ℕ) : Type 0 where
@@ -166,6 +183,7 @@ repeated_at columns (Given place) repeated = (place, refl, given_at columns plac
 repeated_at columns Expected repeated = absurd (false≢true repeated)
 repeated_at columns (Settled part) repeated = absurd (false≢true repeated)
 repeated_at columns Fault repeated = absurd (false≢true repeated)
+repeated_at columns Carried repeated = absurd (false≢true repeated)
 
 -- the columns of one more name
 pub columns_pushed : (plan : PlanParts) (header : Fields) (place : ℕ) (before after : List Column) (column : Column) → after ≡ before ++ column ∷ [] → IsColumnAt plan header place column
@@ -179,7 +197,7 @@ pub unknown_column : (plan : PlanParts) (header : Fields) (place : ℕ) → plac
 unknown_column plan header place within unknown =
     record { place = place; counted = refl; name = get_or header place []; present = field_at-within header place within; unknown = unknown }
 
-field_at-front : (header : Fields) (count place : ℕ) (name : List ℕ) → field_at (take count header) place ≡ Some name → field_at header place ≡ Some name
+pub field_at-front : (header : Fields) (count place : ℕ) (name : List ℕ) → field_at (take count header) place ≡ Some name → field_at header place ≡ Some name
 field_at-front header count place name there =
     subst (λ h. field_at h place ≡ Some name) (take-append-drop count header) (field_at-append (take count header) (drop count header) place name there)
 

@@ -1,5 +1,5 @@
 -- What is left of a list of parts after walks over zones.
-use Rattle.std.proofs.Common.{◌≡◌, ◌⊎◌, ℕ, ◌+◌, ◌<◌, ◌++◌, ◌&&◌, inl, inr, Bool, true, false, not, cond, List, [], ◌∷◌, length, filter, Contains, refl, ap, sym, ◌∙◌, subst, append-nil, append_assoc, arith}
+use Rattle.std.proofs.Common.{◌≡◌, ◌⊎◌, ℕ, ◌+◌, ◌++◌, ◌&&◌, inl, inr, Bool, true, false, not, cond, List, [], ◌∷◌, length, filter, Contains, refl, ap, sym, ◌∙◌, subst, append-nil, append_assoc, arith}
 use Rattle.std.proofs.lemmas.Bool.{and_from, and_parts, both_ways, cases_lt}
 use Rattle.cutplan.specs.declared.region.Region.{Region}
 use Rattle.cutplan.proofs.ColumnWise.{among_contained}

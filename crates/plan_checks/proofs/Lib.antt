@@ -25,6 +25,11 @@ pub mod Claims
 pub mod Readings
 pub mod Rows
 pub mod Refusals
+pub mod RowRefusals
+pub mod RowHeader
+pub mod RowRecords
+pub mod Sheets
+pub mod RowTexts
 pub mod Asking
 pub mod PlaceLists
 pub mod Reaching

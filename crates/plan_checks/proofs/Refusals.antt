@@ -9,7 +9,7 @@ use Rattle.dtable.specs.PlanFile.{IsPlanText}
 use Rattle.evaluation.specs.declared.stop.ValueStop.TheVariants as value
 use Rattle.evaluation.specs.Stop.{WritesFront, WritesText}
 use Rattle.plan_checks.specs.declared.stop.TestStop.{TestStop}
-use Rattle.plan_checks.specs.declared.stop.TestStop.TheVariants.{Value, Cases}
+use Rattle.plan_checks.specs.declared.stop.TestStop.TheVariants.{Value}
 use Rattle.plan_checks.specs.declared.testing.Tested.{Tested}
 use Rattle.plan_checks.specs.Report.{IsSomeTestText, IsTestText}
 use Rattle.plan_checks.specs.Stop.{IsReason, IsStopOfPlan, RefusesTexts, WritesUntil, failed_after}
@@ -28,7 +28,7 @@ pub refused_is_reason : (text cases : List ℕ) (s : TestStop) → RefusesTexts 
 refused_is_reason text cases (Value (value.Write written)) refused = absurd refused
 refused_is_reason text cases s refused = refused
 
-keeps_itself : (old : Option (List ℕ)) → Keeps old old
+pub keeps_itself : (old : Option (List ℕ)) → Keeps old old
 keeps_itself None = tt
 keeps_itself (Some bytes) = refl
 

@@ -1,11 +1,10 @@
 -- The texts of fields and rows, one after another.
-use Rattle.std.proofs.Common.{◌≡◌, ◌≢◌, ◌<◌, ◌≤◌, ◌+◌, ◌⊎◌, inl, inr, ℕ, zero, suc, Bool, true, false, cond, List, [], ◌∷◌, ◌++◌, ◌||◌, length, map, take, get_or, slice_get, Some, refl, sym, ap, subst, ◌∙◌, below_more, arith}
+use Rattle.std.proofs.Common.{◌≡◌, ◌≢◌, ◌<◌, ◌≤◌, ◌+◌, inl, inr, ℕ, zero, suc, Bool, true, false, cond, List, [], ◌∷◌, ◌++◌, ◌||◌, length, map, take, get_or, slice_get, Some, refl, sym, ap, subst, ◌∙◌, below_more, arith}
 use Rattle.std.specs.List.{AllZip, count_by, list_all}
 use Rattle.std.proofs.lemmas.Bool.{and_parts, cases_Bool}
-use Rattle.std.proofs.Math.Seq.{take-length}
 use Rattle.std.proofs.lemmas.Option.{none-some, same_Some, slice_get-get_or}
-use Rattle.std.proofs.lemmas.List.{append-nil, append_assoc, length-map, length-take-le, length_push, map_push, take_more}
-use Rattle.std.proofs.lemmas.List.Sums.{count_by-le-length, sum_by-cons, sum_by_push}
+use Rattle.std.proofs.lemmas.List.{append-nil, append_assoc, length-map, length-take-le, map_push, take_more}
+use Rattle.std.proofs.lemmas.List.Sums.{count_by-le-length, sum_by-cons}
 use Rattle.intake_csv.specs.Records.{Fields}
 use Rattle.csv.specs.Records.{Row, field_at, fields_of}
 use Rattle.tables.specs.declared.inputs.Slot.{Slot}
@@ -20,7 +19,7 @@ use Rattle.plan_checks.specs.declared.testing.Tested.TheVariants.{AllRight, Diff
 use Rattle.plan_checks.specs.Columns.{settles}
 use Rattle.plan_checks.specs.Filing.{IsUnfit}
 use Rattle.plan_checks.specs.Lines.{AreFieldTexts, IsFieldText, IsMet, IsRowText, MeetsRow, difference_line, expects_faults, fault_line, found_fault, found_text, is_for_faults, shown, unexpected_line}
-use Rattle.plan_checks.specs.Report.{AreJudged, HasValues, IsBadField, IsFindingOf, IsJudged, IsRefusedBy, IsUnfitIn, IsUnreadIn, counts_of, is_refused, is_right, is_wrong, tested_of, width_line}
+use Rattle.plan_checks.specs.Report.{AreJudged, HasValues, IsBadField, IsFindingOf, IsJudged, IsRefusedBy, IsUnfitIn, IsUnreadIn, counts_of, is_right, tested_of, width_line}
 use Rattle.plan_checks.proofs.HeaderColumns.{names_more}
 
 module _ (number : ℕ) (finding : Finding) where

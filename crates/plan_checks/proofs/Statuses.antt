@@ -4,6 +4,9 @@ use Rattle.evaluation.proofs.Statuses as value
 use Rattle.plan_checks.specs.declared.stop.TestStop.{TestStop}
 use Rattle.plan_checks.specs.declared.stop.TestStop.TheVariants as stop
 use Rattle.plan_checks.specs.Stop.{status_of}
+use Rattle.plan_checks.specs.declared.rows_stop.RowsStop.{RowsStop}
+use Rattle.plan_checks.specs.declared.rows_stop.RowsStop.TheVariants as rows
+use Rattle.plan_checks.specs.RowsStop.{status_of as status_of_rows}
 
 pub least_status : (s : TestStop) → 1 ≤ status_of s
 least_status (stop.Value s) = value.least_status s
@@ -12,3 +15,11 @@ least_status s = grind arith
 pub greatest_status : (s : TestStop) → status_of s ≤ 3
 greatest_status (stop.Value s) = value.greatest_status s
 greatest_status s = grind arith
+
+pub least_of_rows : (s : RowsStop) → 1 ≤ status_of_rows s
+least_of_rows (rows.Value s) = value.least_status s
+least_of_rows s = grind arith
+
+pub greatest_of_rows : (s : RowsStop) → status_of_rows s ≤ 3
+greatest_of_rows (rows.Value s) = value.greatest_status s
+greatest_of_rows s = grind arith

@@ -1,11 +1,10 @@
 -- A rule or a test is used at possible values if and only if it is used in their zone.
-use Rattle.std.proofs.Common.{◌≡◌, ℕ, zero, suc, ◌++◌, ◌==◌, inl, inr, Bool, true, false, cond, nat_lt, List, [], ◌∷◌, length, take, map, filter, Option, Some, None, Ok, Contains, refl, ap, sym, ◌∙◌, subst, arith, eq-eqb}
-use Rattle.std.specs.Prelude.{position}
+use Rattle.std.proofs.Common.{◌≡◌, ℕ, zero, suc, ◌++◌, ◌==◌, inl, inr, Bool, true, false, cond, nat_lt, List, [], ◌∷◌, length, take, map, Option, Some, None, Contains, refl, ap, sym, ◌∙◌, subst, eq-eqb}
 use Rattle.std.specs.List.{flat_map, list_any, range_with_len, slice_get}
 use Rattle.std.specs.Option.{option_and_then, option_map_or}
 use Rattle.std.proofs.lemmas.Bool.{both_ways, eqb-true}
-use Rattle.std.proofs.lemmas.Option.{none-some, same_Some}
-use Rattle.feel_tests.specs.Holds.{holds, passes}
+use Rattle.std.proofs.lemmas.Option.{none-some}
+use Rattle.feel_tests.specs.Holds.{passes}
 use Rattle.feel_tests.specs.declared.cell.Cell.{Cell}
 use Rattle.feel_tests.specs.declared.cell.Cell.TheVariants.{Dash, OneOf, NoneOf}
 use Rattle.feel_tests.specs.declared.cell.Test.{Test}
@@ -23,7 +22,7 @@ use Rattle.settlement.specs.Bindings.{slot_of}
 use Rattle.cutplan.specs.declared.region.Region.{Region}
 use Rattle.cutplan.specs.ClassWise.{Covers, LiesInClass, Zone, answers_in, cell_holds_in, first_outside_in, is_outside_in, matching_in, rule_matches_in, table_value_in}
 use Rattle.cutplan.specs.InputClasses.{name_literals}
-use Rattle.cutplan.specs.Regions.{column_literals, literals, rule_literals, test_literals}
+use Rattle.cutplan.specs.Regions.{literals, rule_literals, test_literals}
 use Rattle.cutplan.proofs.Alike.{Among, among_left}
 use Rattle.cutplan.proofs.ClassWise.{filter_agrees, first_agrees, input_asked, outside_asked, rule_asked, table_asked, tables_asked}
 use Rattle.cutplan.proofs.ColumnWise.{among_contained, literal_of_rule}
@@ -34,11 +33,11 @@ use Rattle.plan_checks.specs.declared.rule_place.TestPlace.{TestPlace}
 use Rattle.plan_checks.specs.Dead.{AreDeadRules, AreDeadTests, AreUnused, GivesAnswer, IsMet}
 use Rattle.plan_checks.specs.Giving.{giving}
 use Rattle.plan_checks.specs.Leaving.{Begins, IsLeft}
-use Rattle.plan_checks.specs.RulePlaces.{all_rules, all_tests, rule_in, test_at, tests_of}
+use Rattle.plan_checks.specs.RulePlaces.{all_rules, all_tests, test_at, tests_of}
 use Rattle.plan_checks.specs.Runs.{gives_in, giving_in, has_rule, meets_in}
 use Rattle.plan_checks.specs.Zones.{ArePossible, LieIn, class_of, plan_regions}
 use Rattle.plan_checks.proofs.Asking.{alone}
-use Rattle.plan_checks.proofs.Reaching.{MeetsThere, giving_at, giving_there, meets_from, meets_there, some_of}
+use Rattle.plan_checks.proofs.Reaching.{giving_at, giving_there, meets_from, meets_there, some_of}
 use Rattle.plan_checks.proofs.Regions.{covered, values_in}
 use Rattle.plan_checks.proofs.Values.{in_class}
 

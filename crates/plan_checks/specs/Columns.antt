@@ -1,4 +1,4 @@
--- What the columns of a file of tests are for.
+-- What the columns of a file of tests are for, and those of a file of rows.
 use Rattle.std.specs.Prelude.{◌≡◌, ℕ, Bool, true, false, cond, ◌==◌, ◌&&◌, ◌||◌, nat_lt, codes, List, find, position, Option, Some, None, is_some, IsSome, IsTrue, IsUtf8, option_map, slice_get}
 use Rattle.std.specs.List.{AllZip, list_any}
 use Rattle.std.specs.Str.{bytes_eq}
@@ -12,7 +12,7 @@ use Rattle.tables.specs.Inputs.{needs}
 use Rattle.tables.specs.Plan.{PlanParts}
 use Rattle.plan_checks.specs.declared.columns.Column.{Column}
 use Rattle.plan_checks.specs.declared.columns.Use.{Use}
-use Rattle.plan_checks.specs.declared.columns.Use.TheVariants.{Given, Expected, Settled, Fault}
+use Rattle.plan_checks.specs.declared.columns.Use.TheVariants.{Given, Expected, Settled, Fault, Carried}
 use Rattle.plan_checks.specs.Filing.{first_accumulator, member_place}
 use Rattle.plan_checks.specs.Parts.{is_part_name, parts}
 
@@ -41,9 +41,13 @@ fault_use name = cond (bytes_eq name fault_word) (Some Fault) None
 abbrev pub expected_use : PlanParts → List ℕ → Option Use
 expected_use plan name = cond (is_output plan.tables name) (Some Expected) (or_else (settled_use plan.roles name) (fault_use name))
 
+-- a column with this name gives the value of the plan's name, and is for another purpose if the plan has no such name
+abbrev pub use_or : PlanParts → List ℕ → Option Use → Option Use
+use_or plan name other = or_else (option_map Given (position (λ d. bytes_eq d.name name) plan.names)) other
+
 -- what a column with this name is for; a name of the plan comes before what is expected
 abbrev pub use_of : PlanParts → List ℕ → Option Use
-use_of plan name = or_else (option_map Given (position (λ d. bytes_eq d.name name) plan.names)) (expected_use plan name)
+use_of plan name = use_or plan name (expected_use plan name)
 
 -- the column gives the plan's name at this index
 abbrev pub gives_place : ℕ → Use → Bool
@@ -51,6 +55,7 @@ gives_place place (Given given) = given == place
 gives_place place Expected = false
 gives_place place (Settled part) = false
 gives_place place Fault = false
+gives_place place Carried = false
 
 -- one of the columns gives the plan's name at this index
 abbrev pub gives : List Column → ℕ → Bool
@@ -62,6 +67,7 @@ is_repeated columns (Given place) = gives columns place
 is_repeated columns Expected = false
 is_repeated columns (Settled part) = false
 is_repeated columns Fault = false
+is_repeated columns Carried = false
 
 -- the column has this name, and is for what the plan has under the name
 pub record IsColumn (plan : PlanParts) (name : List ℕ) (column : Column) : Type 0 where
@@ -100,6 +106,7 @@ is_settled_use (Given place) = false
 is_settled_use Expected = false
 is_settled_use (Settled part) = true
 is_settled_use Fault = false
+is_settled_use Carried = false
 
 -- one of the columns does
 abbrev pub expects_settlement : List Column → Bool
@@ -120,6 +127,10 @@ is_needed plan columns place = needs plan.tables place || (settles plan columns 
 -- the columns give each name that is needed
 abbrev pub GivesNeeded : PlanParts → List Column → Type 0
 GivesNeeded plan columns = (place : ℕ) → IsTrue (is_needed plan columns place) → IsTrue (gives columns place)
+
+-- the columns give each name that a table reads
+abbrev pub GivesRead : PlanParts → List Column → Type 0
+GivesRead plan columns = (place : ℕ) → IsTrue (needs plan.tables place) → IsTrue (gives columns place)
 
 -- the name is needed, and no column gives it
 pub record IsUngiven (plan : PlanParts) (columns : List Column) (name : List ℕ) : Type 0 where

@@ -1,5 +1,5 @@
 -- The claim that has the values of a row, and the accumulators before it. A text that the row does not give is empty, and an amount is zero.
-use Rattle.std.specs.Prelude.{◌≡◌, ◌≢◌, ◌⊎◌, ℕ, ℤ, pos, ◌+◌, ◌-◌, Bool, true, false, List, [], map, Option, Some, None, is_some, slice_get, if◌then◌else◌, length}
+use Rattle.std.specs.Prelude.{◌≡◌, ◌≢◌, ◌⊎◌, ℕ, ℤ, pos, ◌+◌, ◌-◌, Bool, true, false, List, [], map, Option, Some, None, slice_get, if◌then◌else◌, length}
 use Rattle.fixpoint.specs.Money.{IsMoney}
 use Rattle.feel_tests.specs.Value.{kind_of}
 use Rattle.feel_tests.specs.declared.kind.Kind.{Kind}

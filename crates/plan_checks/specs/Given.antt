@@ -1,5 +1,5 @@
 -- The values that the fields of a row give.
-use Rattle.std.specs.Prelude.{◌≡◌, ◌<◌, ◌⊎◌, ℕ, List, length, None, Some, IsUtf8, option_map, slice_get}
+use Rattle.std.specs.Prelude.{◌≡◌, ◌<◌, ℕ, List, length, None, Some, IsUtf8, option_map, slice_get}
 use Rattle.csv.specs.Records.{field_at}
 use Rattle.feel_tests.specs.declared.value.Value.{Value}
 use Rattle.feel_tests.specs.declared.kind.Kind.{Kind}
@@ -49,3 +49,7 @@ pub record IsUnreadAt (names : List InputData) (columns : List Column) (fields :
   pub input : InputData
   pub named : slice_get names place ≡ Some input
   pub unread : IsUnreadField input.kind fields column
+
+-- no field before that of the column at an index is such a field
+abbrev pub AreReadBefore : List InputData → List Column → Fields → ℕ → Type 0
+AreReadBefore names columns fields column = (earlier : ℕ) → earlier < column → ¬ IsUnreadAt names columns fields earlier

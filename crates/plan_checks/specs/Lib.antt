@@ -23,3 +23,9 @@ pub mod Readable
 pub mod Lines
 pub mod Report
 pub mod Stop
+pub mod Sheet
+pub mod RowColumns
+pub mod ValuedRows
+pub mod Placed
+pub mod WrittenRows
+pub mod RowsStop

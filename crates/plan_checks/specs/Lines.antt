@@ -14,7 +14,7 @@ use Rattle.tables.specs.Environment.{Environment, answer_of}
 use Rattle.settlement.specs.declared.outcome.Outcome.{Outcome}
 use Rattle.plan_checks.specs.declared.columns.Column.{Column}
 use Rattle.plan_checks.specs.declared.columns.Use.{Use}
-use Rattle.plan_checks.specs.declared.columns.Use.TheVariants.{Given, Expected, Settled, Fault as FaultOfTables}
+use Rattle.plan_checks.specs.declared.columns.Use.TheVariants.{Given, Expected, Settled, Carried, Fault as FaultOfTables}
 use Rattle.plan_checks.specs.declared.finding.Finding.{Finding}
 use Rattle.plan_checks.specs.declared.part.Part.{Part}
 use Rattle.plan_checks.specs.declared.part.Part.TheVariants.{Status, Reason, Amount}
@@ -53,6 +53,7 @@ HasPart (Amount amount) field outcome = IsUtf8 field × Denotes field (Number (a
 -- what the field of a column expects is found
 abbrev pub IsFound : Use → Finding → List ℕ → List ℕ → Type 0
 IsFound (Given place) finding name field = Unit {0}
+IsFound Carried finding name field = Unit {0}
 IsFound Expected finding name field = IsSomeAnd (answered finding.tables name) (HasAnswer field)
 IsFound (Settled part) finding name field = IsSomeAnd finding.settled (HasPart part field)
 IsFound FaultOfTables finding name field = field ≡ found_fault finding
@@ -60,6 +61,7 @@ IsFound FaultOfTables finding name field = field ≡ found_fault finding
 -- the column expects nothing by an empty field
 abbrev pub IsOptional : Use → Type 0
 IsOptional (Given place) = Unit {0}
+IsOptional Carried = Unit {0}
 IsOptional Expected = Unit {0}
 IsOptional (Settled part) = Unit {0}
 IsOptional FaultOfTables = ⊥
@@ -86,6 +88,7 @@ part_text (Amount amount) outcome = shortest_text (amount_of amount outcome)
 -- what is found in place of the expectation of a column
 abbrev pub found_as : Use → Finding → List ℕ → List ℕ
 found_as (Given place) finding name = []
+found_as Carried finding name = []
 found_as Expected finding name = option_map_or plain_answer (answered finding.tables name) absent_word
 found_as (Settled part) finding name = option_map_or (part_text part) finding.settled absent_word
 found_as FaultOfTables finding name = shown (found_fault finding)
@@ -133,6 +136,7 @@ is_filled field = not (length field == 0)
 -- the field says whether the claim pends or the tables have a fault
 abbrev pub is_for_faults : Use → List ℕ → Bool
 is_for_faults (Given place) field = false
+is_for_faults Carried field = false
 is_for_faults Expected field = false
 is_for_faults (Settled Status) field = is_filled field
 is_for_faults (Settled Reason) field = is_filled field

@@ -1,5 +1,5 @@
 -- The expectations of a row that can be read.
-use Rattle.std.specs.Prelude.{◌≡◌, ◌⊎◌, ℕ, List, [], ◌∷◌, codes, find, Option, Some, None, IsSomeAnd, option_map, slice_get}
+use Rattle.std.specs.Prelude.{◌≡◌, ◌⊎◌, ℕ, List, [], ◌∷◌, codes, find, Option, Some, None, option_map, slice_get}
 use Rattle.std.specs.Str.{bytes_eq}
 use Rattle.csv.specs.Records.{field_at}
 use Rattle.feel_tests.specs.declared.kind.Kind.{Kind}
@@ -10,7 +10,7 @@ use Rattle.tables.specs.Environment.{or_else}
 use Rattle.tables.specs.Plan.{PlanParts}
 use Rattle.plan_checks.specs.declared.columns.Column.{Column}
 use Rattle.plan_checks.specs.declared.columns.Use.{Use}
-use Rattle.plan_checks.specs.declared.columns.Use.TheVariants.{Given, Expected, Settled, Fault}
+use Rattle.plan_checks.specs.declared.columns.Use.TheVariants.{Given, Expected, Settled, Fault, Carried}
 use Rattle.plan_checks.specs.declared.part.Part.{Part}
 use Rattle.plan_checks.specs.declared.part.Part.TheVariants.{Status, Reason, Amount}
 use Rattle.plan_checks.specs.Expected.{AreOfKind}
@@ -41,6 +41,7 @@ IsReadableAs plan (Given place) name field = Unit {0}
 IsReadableAs plan Expected name field = IsOfKind field (output_kind plan.tables name)
 IsReadableAs plan (Settled part) name field = IsReadablePart part field
 IsReadableAs plan Fault name field = Unit {0}
+IsReadableAs plan Carried name field = Unit {0}
 
 -- the field is empty, or can be an expectation of the column
 abbrev pub IsReadable : PlanParts → Column → List ℕ → Type 0

@@ -1,9 +1,8 @@
 -- The meaning of each error of `test` for the texts, its line on standard error, and its exit status.
-use Rattle.std.specs.Prelude.{◌≡◌, ◌+◌, ◌<◌, ℕ, ◌++◌, Bool, true, List, [], ◌∷◌, codes, decimal, length, Option, Some, IsUtf8}
+use Rattle.std.specs.Prelude.{◌≡◌, ◌+◌, ◌<◌, ℕ, ◌++◌, Bool, true, List, [], ◌∷◌, codes, decimal, length, Option, Some}
 use Rattle.std.specs.Io.KnownBytes.{Keeps}
 use Rattle.csv.specs.Records.{field_at}
 use Rattle.dtable.specs.PlanFile.{IsPlanText}
-use Rattle.evaluation.specs.declared.stop.ValueStop.{ValueStop}
 use Rattle.evaluation.specs.declared.stop.ValueStop.TheVariants as value
 use Rattle.evaluation.specs.Stop.{SpellsNoPlan, WritesFront, stop_text as value_stop_text, status_of as value_status, IsStopOfPlan as IsValueStopOfPlan}
 use Rattle.evaluation.specs.ValueText.{line_end}

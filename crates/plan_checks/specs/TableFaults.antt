@@ -1,5 +1,5 @@
 -- The faults of a plan's tables, without its roles, and what `check --whole` lists of a plan.
-use Rattle.std.specs.Prelude.{◌≡◌, ◌↔◌, ◌<◌, ℕ, List, [], map, slice_get, Option, Some, None, Result, Ok, Err}
+use Rattle.std.specs.Prelude.{◌≡◌, ◌↔◌, ℕ, List, [], map, slice_get, Option, Some, None, Result, Ok, Err}
 use Rattle.feel_tests.specs.declared.value.Value.{Value}
 use Rattle.faults.specs.declared.fault.Fault.{Fault}
 use Rattle.faults.specs.declared.reason.Reason.{Reason}

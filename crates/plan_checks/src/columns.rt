@@ -1,4 +1,5 @@
-//! The columns of a file of tests, and what each of them is for.
+//! The columns of a file of tests, and what each of them is for. `row_columns.rt` has those of a file of
+//! rows.
 
 ghost use Rattle.std.specs.Prelude.{◌≡◌, IfOk, IfErr, IfSome, IfNone, position};
 ghost use Rattle.std.specs.Str.{bytes_eq};
@@ -29,6 +30,8 @@ pub enum Use {
     Settled(Part),
     /// They expect the reason why the row's claim pends, or the fault of the tables.
     Fault,
+    /// They are carried over as they are. No column of a file of tests is for this.
+    Carried,
 }
 
 /// A column: its name, and what its fields are for.
@@ -101,7 +104,7 @@ fn column_at<'h>(plan: &Plan, header: &'h ByteRecord, place: usize) -> Option<Co
 fn use_of(plan: &Plan, name: &str) -> Option<Use>
     ensures { result ≡ use_of plan.now name.now }
 {
-    match place_of(plan.names(), name) {
+    match place_of(plan.names(), name.as_bytes()) {
         Some(place) => Some(Use::Given(place)),
         None => expected_use(plan, name),
     }
@@ -110,7 +113,7 @@ fn use_of(plan: &Plan, name: &str) -> Option<Use>
 fn expected_use(plan: &Plan, name: &str) -> Option<Use>
     ensures { result ≡ expected_use plan.now name.now }
 {
-    if is_output(plan.tables(), name) {
+    if is_output(plan.tables(), name.as_bytes()) {
         return Some(Use::Expected);
     }
     match settled_use(plan, name) {
@@ -141,30 +144,34 @@ fn fault_use(name: &str) -> Option<Use>
     }
 }
 
-fn place_of(names: &[InputData], name: &str) -> Option<usize>
+/// Returns the index of the plan's name with these bytes, from 0.
+pub fn place_of(names: &[InputData], name: &[u8]) -> Option<usize>
     ensures { result ≡ position (λ d. bytes_eq d.name name.now) names.now }
 {
-    names.iter().position(|input| input.name.as_str() == name)
+    names
+        .iter()
+        .position(|input| input.name.as_str().as_bytes() == name)
 }
 
-fn is_output(tables: &[Table], name: &str) -> bool
+/// Returns whether an output of one of the tables has the name with these bytes.
+pub fn is_output(tables: &[Table], name: &[u8]) -> bool
     ensures { result ≡ is_output tables.now name.now }
 {
     tables.iter().any(|table| has_output(table, name))
 }
 
-fn has_output(table: &Table, name: &str) -> bool
+fn has_output(table: &Table, name: &[u8]) -> bool
     ensures { result ≡ has_output table.now name.now }
 {
     table
         .outputs
         .as_slice()
         .iter()
-        .any(|output| output.name.as_str() == name)
+        .any(|output| output.name.as_str().as_bytes() == name)
 }
 
-// Whether one of the columns gives the name that the use gives.
-fn is_repeated(columns: &[Column<'_>], used: Use) -> bool
+/// Returns whether one of the columns gives the name that the use gives.
+pub fn is_repeated(columns: &[Column<'_>], used: Use) -> bool
     ensures { result ≡ is_repeated columns.now used }
 {
     match used {
@@ -224,7 +231,8 @@ fn is_needed(plan: &Plan, columns: &[Column<'_>], place: usize) -> bool
     plan.needs(place) || (settles(plan, columns) && is_of_claim(plan, place))
 }
 
-fn first_ungiven<'p>(plan: &'p Plan, columns: &[Column<'_>]) -> Option<&'p InputData>
+/// Returns the first name that is needed and that no column gives.
+pub fn first_ungiven<'p>(plan: &'p Plan, columns: &[Column<'_>]) -> Option<&'p InputData>
     ensures missing { IfSome result (λ input. IsUngiven plan.now columns.now input.now.name) }
     ensures given { IfNone result (GivesNeeded plan.now columns.now) }
 {

@@ -4,7 +4,7 @@ ghost use Rattle.std.specs.Prelude.{◌≡◌, ◌<◌, Some, IfOk, IfErr, IfSom
 ghost use Rattle.csv.specs.Records.{fields_of};
 ghost use Rattle.feel_tests.specs.Value.{kind_of};
 ghost use Rattle.plan_checks.specs.Columns.{AreApart, AreOfNames};
-ghost use Rattle.plan_checks.specs.Given.{GivesRow, IsUnreadAt, IsUnreadField, IsValueAt};
+ghost use Rattle.plan_checks.specs.Given.{AreReadBefore, GivesRow, IsUnreadAt, IsUnreadField, IsValueAt};
 
 use crate::columns::{Column, Use};
 use csv::ByteRecord;
@@ -28,6 +28,8 @@ pub fn read_given(
         (GivesRow plan.now.names columns.now (fields_of row.now))) }
     ensures unread { IfOk result (λ read. IfErr read
         (IsUnreadAt plan.now.names columns.now (fields_of row.now))) }
+    ensures first { IfOk result (λ read. IfErr read
+        (AreReadBefore plan.now.names columns.now (fields_of row.now))) }
 {
     let mut inputs = Inputs::new(alloc, plan)?;
     for (index, column) in columns.iter().enumerate() {

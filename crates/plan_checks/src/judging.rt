@@ -58,7 +58,8 @@ pub fn judge_row(
     width_row(alloc, number)
 }
 
-fn has_width(row: &ByteRecord, columns: &[Column<'_>]) -> bool
+/// Returns whether the row has a field for each column.
+pub fn has_width(row: &ByteRecord, columns: &[Column<'_>]) -> bool
     ensures { IsTrue result ↔ length (fields_of row.now) ≡ length columns.now }
 {
     row.len() == columns.len()
@@ -213,15 +214,16 @@ fn judge_finding(
     Ok(Judged { judgement, text })
 }
 
-fn tables_value<'p>(
+/// Returns the value of the tables of the valuer's plan, or their first fault.
+pub fn tables_value<'v, V: Valuer>(
     alloc: Global,
-    plan: &'p Plan,
+    valuer: &'v V,
     inputs: &Inputs,
-) -> Result<Result<Env<'p>, Fault>, AllocError>
-    requires { IsReady plan.now.tables inputs.now }
-    ensures { IfOk result (λ value. env plan.now inputs.now ≡ value) }
+) -> Result<Result<Env<'v>, Fault>, AllocError>
+    requires { IsReady (V.plan_of valuer.now).tables inputs.now }
+    ensures { IfOk result (λ value. env (V.plan_of valuer.now) inputs.now ≡ value) }
 {
-    match plan.value(alloc, inputs) {
+    match valuer.value(alloc, inputs) {
         Ok(values) => Ok(Ok(values)),
         Err(Fault::OutOfMemory) => Err(AllocError),
         Err(fault) => Ok(Err(fault)),

@@ -32,6 +32,12 @@
 //! `do_test` is the promise of the command.
 //! Then read `specs/Columns.antt`, `specs/Given.antt` and `specs/Expected.antt`, which define when a row
 //! is right, and `specs/Report.antt`, which defines the output.
+//!
+//! The rows of a file can also be written with the values that a plan gives them. `row_columns.rt` finds
+//! what each column is for, `valued_row.rt` makes the record of a row by the compiled plan, `sheet.rt`
+//! writes records, `valued_rows.rt` writes all rows, and `valuing.rt` is the command. `rows_stop.rt` has
+//! every error of the command. Begin with `valuing.rt`, and then read `specs/ValuedRows.antt`, which
+//! defines the output.
 #![tactic(auto)]
 
 mod amounts;
@@ -61,13 +67,19 @@ mod plain;
 mod readable;
 mod records;
 mod report;
+mod row_columns;
+mod rows_stop;
 mod rule_place;
+mod sheet;
 mod stop;
 mod survey;
 mod table_faults;
 mod terms;
 mod test_values;
 mod testing;
+mod valued_row;
+mod valued_rows;
+mod valuing;
 mod walk;
 mod zone_box;
 mod zone_regions;
@@ -88,10 +100,12 @@ pub use joint::{JointName, JointNames, Rename};
 pub use joint_regions::{Narrowing, joint_kind, joint_text, regions_of_names};
 pub use pending::{PendingZones, ZONE_LIMIT, pending_zones};
 pub use records::name_of_column;
+pub use rows_stop::{RowsFault, RowsStop};
 pub use rule_place::{RulePlace, TestPlace, tests_at};
 pub use stop::{CasesFault, TestStop};
 pub use table_faults::{failing_zones, faulty_zones};
 pub use terms::{FamilyTerms, Terms};
 pub use testing::{CASES_LIMIT_BYTES, Tested, do_test};
+pub use valuing::do_rows;
 pub use zone_box::ZoneBox;
 pub use zone_regions::{plan_regions, zone_count};

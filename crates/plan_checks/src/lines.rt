@@ -81,6 +81,7 @@ impl Use {
             Use::Fault => true,
             Use::Given(_) => false,
             Use::Expected => false,
+            Use::Carried => false,
         }
     }
 }
@@ -150,6 +151,7 @@ fn is_met(
 {
     match column.used {
         Use::Given(_) => Ok(true),
+        Use::Carried => Ok(true),
         Use::Expected => meets_answer(alloc, column.name, field, finding),
         Use::Settled(part) => meets_part(alloc, part, field, finding),
         Use::Fault => is_fault(alloc, field, finding),
@@ -299,6 +301,7 @@ fn found_text(
 {
     match column.used {
         Use::Given(_) => Ok(Vec::new(alloc)),
+        Use::Carried => Ok(Vec::new(alloc)),
         Use::Expected => answer_text(alloc, answer_named(&finding.tables, column.name)),
         Use::Settled(part) => match &finding.settled {
             Some(outcome) => part_text(alloc, part, outcome),
@@ -408,8 +411,8 @@ pub fn append_number(text: &mut Vec<u8>, number: usize) -> Result<(), AllocError
     text.extend_from_slice(Buffer::new().format(number).as_bytes())
 }
 
-// Appends the reason of a fault, as the remittance has it.
-fn append_fault(text: &mut Vec<u8>, fault: Fault) -> Result<(), AllocError>
+/// Appends the reason of a fault, as the remittance has it.
+pub fn append_fault(text: &mut Vec<u8>, fault: Fault) -> Result<(), AllocError>
     ensures { OnOk result (text.new.items ≡ text.old.items ++ fault_text fault) }
 {
     match Reason::of(fault) {
@@ -429,7 +432,8 @@ fn append_reason(text: &mut Vec<u8>, reason: Reason) -> Result<(), AllocError>
     Ok(())
 }
 
-fn append_place(text: &mut Vec<u8>, number: usize) -> Result<(), AllocError>
+/// Appends a colon and a number.
+pub fn append_place(text: &mut Vec<u8>, number: usize) -> Result<(), AllocError>
     ensures { OnOk result (text.new.items ≡ text.old.items ++ (codes ":" ++ decimal number)) }
 {
     text.push(b':')?;

@@ -69,6 +69,7 @@ fn is_readable_as(
         },
         Use::Settled(part) => is_readable_part(alloc, part, field),
         Use::Fault => Ok(true),
+        Use::Carried => Ok(true),
     }
 }
 

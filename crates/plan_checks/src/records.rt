@@ -14,10 +14,7 @@ use std::alloc::{AllocError, Global};
 pub fn read_records(alloc: Global, text: &[u8]) -> Result<Vec<ByteRecord>, AllocError>
     ensures { IfOk result (λ records. map fields_of records.items ≡ records_of text.now) }
 {
-    let mut reader = ReaderBuilder::new()
-        .has_headers(false)
-        .flexible(true)
-        .from_reader(alloc, text);
+    let mut reader = new_reader(alloc, text);
     let mut records = Vec::new(alloc);
     let mut record = ByteRecord::new(alloc);
     while read_record(&mut reader, &mut record)? {
@@ -27,9 +24,20 @@ pub fn read_records(alloc: Global, text: &[u8]) -> Result<Vec<ByteRecord>, Alloc
     Ok(records)
 }
 
-// Reads the next record into `row`, and returns whether there was one. A slice of bytes can
-// always be read, so every error of `csv` means that memory ran out.
-fn read_record(reader: &mut Reader<&[u8]>, row: &mut ByteRecord) -> Result<bool, AllocError>
+/// Returns a reader at the first record of a text. A byte order mark at the start of the text is
+/// skipped.
+pub fn new_reader(alloc: Global, text: &[u8]) -> Reader<&[u8]>
+    ensures { HasLeft result (records_of text.now) }
+{
+    ReaderBuilder::new()
+        .has_headers(false)
+        .flexible(true)
+        .from_reader(alloc, text)
+}
+
+/// Reads the next record into `row`, and returns whether there was one. A slice of bytes can always
+/// be read, so every error of `csv` means that memory ran out.
+pub fn read_record(reader: &mut Reader<&[u8]>, row: &mut ByteRecord) -> Result<bool, AllocError>
     ensures { IfOk result (λ found. (rows : List Fields) → HasLeft reader.old rows
         → ReadsFrom rows found (fields_of row.new) reader.new) }
 {

@@ -81,7 +81,8 @@ fn put_cases_fault(line: &mut ErrorLine, fault: CasesFault)
     }
 }
 
-fn put_column(line: &mut ErrorLine, words: &str, column: usize)
+/// Appends the words and the number of a column to an empty line.
+pub fn put_column(line: &mut ErrorLine, words: &str, column: usize)
     requires empty { length line.old ≡ 0 }
     requires short { length words.now ≤ 30 }
     ensures text { line.new ≡ line.old ++ (words.now ++ decimal column) }

@@ -1,5 +1,5 @@
 use Rattle.csv.specs.Records.{fields_of}
-use Rattle.plan_checks.proofs.Givens.{column_gives, column_gives_none, gives_next, gives_none, gives_skip, unread_at}
+use Rattle.plan_checks.proofs.Givens.{column_gives, column_gives_none, gives_next, gives_none, gives_skip, read_before, unread_at}
 use Rattle.plan_checks.proofs.given.read_given.Goals as goal
 
 pub loop-index-init : goal.loop-index-init
@@ -22,3 +22,6 @@ loop-index-preserved c =
     let read = rw c.in-Some.is at c.in_ok-value.ensures.value in
     let kind = rw c.in-Some.is at c.in_ok-value.ensures.kind in
     rw c.set.ensures (gives_next _ _ _ _ _ _ _ _ c.requires.apart c.loop-index.invariant by c.kind_at.ensures kind read)
+
+pub returns-in-None-clause-first : goal.returns-in-None-clause-first
+returns-in-None-clause-first c = read_before _ _ _ _ _ c.loop-index.invariant

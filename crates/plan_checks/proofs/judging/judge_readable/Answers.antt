@@ -1,13 +1,13 @@
 use Rattle.std.proofs.Common.{inl}
 use Rattle.std.proofs.lemmas.Result.{IfOk-weaker}
-use Rattle.plan_checks.proofs.Givens.{given_within, row_is_ready}
+use Rattle.plan_checks.proofs.Givens.{given_within, gives_read, row_is_ready}
 use Rattle.plan_checks.proofs.Rows.{judged_unread}
 use Rattle.plan_checks.proofs.judging.judge_readable.Goals as goal
 
 pub judge_inputs-requires : goal.judge_inputs-requires
 judge_inputs-requires c =
     let gives = rw c.in-Ok.is at c.in_ok-inputs.ensures.given in
-    record { width = c.requires.width; readable = c.requires.readable; gives = gives; ready = row_is_ready c.args.plan.now _ _ _ c.requires.needed gives }
+    record { width = c.requires.width; readable = c.requires.readable; gives = gives; ready = row_is_ready c.args.plan.now _ _ _ (gives_read c.args.plan.now c.args.columns.now c.requires.needed) gives }
 
 pub unread_row-requires : goal.unread_row-requires
 unread_row-requires c =

@@ -1,25 +1,9 @@
-use Rattle.std.proofs.Common.{◌∙◌, inr, refl}
-use Rattle.csv.specs.Reading.{strip_bom}
-use Rattle.intake_csv.proofs.AllRecords.{are-records-of}
+use Rattle.std.proofs.Common.{refl}
 use Rattle.plan_checks.proofs.Reading.{one_more_record, all_records}
 use Rattle.plan_checks.proofs.records.read_records.Goals as goal
 
 pub loop-record-init : goal.loop-record-init
-loop-record-init c =
-    let fr = c.from_reader-reader.ensures in
-    let f = c.flexible.ensures in
-    let e = c.has_headers.ensures in
-    rw c.new-records.ensures.items (
-      record {
-        untrimmed = rw (f, e) at fr.trim ∙ c.new.ensures.trim;
-        ready = inr (inr (rw (f, e) at fr.has_headers, fr.headers));
-        config = rw (f, e) at fr.config ∙ c.new.ensures.config;
-        bytes = strip_bom c.args.text.now;
-        source = fr.source;
-        are = rw fr.state (are-records-of c.args.text.now);
-      },
-      refl,
-    )
+loop-record-init c = rw c.new-records.ensures.items (c.new_reader-reader.ensures, refl)
 
 pub loop-record-preserved : goal.loop-record-preserved
 loop-record-preserved c =

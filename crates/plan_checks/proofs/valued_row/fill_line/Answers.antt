@@ -1,0 +1,6 @@
+use Rattle.std.proofs.lemmas.Result.{on_ok_weaker}
+use Rattle.plan_checks.proofs.RowRecords.{row_written}
+use Rattle.plan_checks.proofs.valued_row.fill_line.Goals as goal
+
+pub returns : goal.returns
+returns c = on_ok_weaker c.push_end.result (λ ends. row_written _ _ _ _ _ _ c.clear.ensures c.in_ok-push_fitted.ensures ends) c.push_end.ensures

@@ -1,0 +1,12 @@
+use Rattle.std.proofs.Common.{Bor, List, ℕ, [], map, ap, ◌∙◌}
+use Rattle.std.proofs.lemmas.Result.{IfOk-weaker}
+use Rattle.plan_checks.proofs.RowTexts.{whole_text}
+use Rattle.plan_checks.proofs.valued_rows.text_of_columns.Goals as goal
+
+pub returns : goal.returns
+returns c =
+    let front = c.in_ok-write_header.ensures [] c.sheet_writer-writer.ensures in
+    let names = ap (map (λ (n : Bor (List ℕ)). n.now)) c.as_slice-2.ensures.value ∙ rw c.tables.ensures.tables at c.in_ok-names.ensures in
+    IfOk-weaker c.into_text.result _ _
+    (λ text is rows left. whole_text c.args.plan.now _ _ rows _ _ _ names (rw c.in_ok-compiled.ensures at (c.in_ok-write_rows.ensures rows _ left front)) is)
+    c.into_text.ensures
