@@ -1,8 +1,6 @@
 -- The comparison of two plans: what its boxes say, why there may be no report, and the statuses that follow.
-use Rattle.std.proofs.Common.{◌≡◌, ◌≢◌, ◌<◌, ◌⊎◌, ◌∙◌, ℕ, ap, Bool, true, false, List, [], ◌∷◌, Result, IfErr, IfOk, inl, inr, refl, sym, subst}
+use Rattle.std.proofs.Common.{◌≡◌, ◌≢◌, ◌<◌, ◌⊎◌, ℕ, Bool, true, false, List, [], ◌∷◌, Result, IfErr, IfOk, inl, inr, refl, sym, subst}
 use Rattle.std.proofs.lemmas.Result.{IfErr-weaker, IfOk-weaker}
-use Rattle.faults.specs.declared.plan_fault.PlanCause.TheVariants as cause
-use Rattle.faults.specs.declared.plan_fault.PlanFault.{PlanFault}
 use Rattle.clap.specs.declared.parser.matches.ArgMatches.{ArgMatches}
 use Rattle.tables.specs.Plan.{PlanParts}
 use Rattle.dtable.specs.PlanFile.{IsPlanText}
@@ -14,9 +12,9 @@ use Rattle.plan_checks.specs.declared.comparing.Comparing.{Comparing}
 use Rattle.plan_checks.specs.declared.joint.JointNames.{JointNames}
 use Rattle.plan_checks.specs.declared.pending.TheConstants.{ZONE_LIMIT}
 use Rattle.plan_checks.specs.declared.zone_box.ZoneBox.{ZoneBox}
-use Rattle.plan_checks.specs.Changes.{DifferExactlyIn, HoldJointValues, IsCompareRefusal, counted_joint_zones, names_of, plans_of}
+use Rattle.plan_checks.specs.Changes.{DifferExactlyIn, HoldJointValues, IsCompareRefusal, plans_of}
 use Rattle.evaluation.specs.declared.stop.ValueStop.{ValueStop}
-use Rattle.evaluation.specs.Stop.{IsPlanReason, IsStopOfPlan, status_of}
+use Rattle.evaluation.specs.Stop.{IsPlanReason, status_of}
 use Rattle.console.specs.declared.exit_status.ExitStatus.{ExitStatus}
 use Rattle.console.specs.declared.exit_status.ExitStatus.TheVariants.{Done, Refused, Resource}
 use Rattle.console.specs.ExitStatus.{code_of}
@@ -26,7 +24,7 @@ use Rattle.plan_commands.specs.declared.compare_report.CompareStop.{CompareStop}
 use Rattle.plan_commands.specs.declared.compare_report.CompareStop.TheVariants.{Plans, Text, Word}
 use Rattle.plan_commands.specs.declared.compare_words.WordFault.{WordFault}
 use Rattle.plan_commands.specs.declared.compare_words.WordFault.TheVariants as word
-use Rattle.plan_commands.specs.Comparing.{AreCompared, AreComparedAsAsked, AreComparedPlans, AreComparedTexts, AreJoint, AreRefused, AreUncompared, DenotePlans, HaveNoComparison, IsAsked, IsNamedOld, IsTextStop, PlansAreCompared, PlansAreRefused, StopsComparing, StopsPlans, StopsTexts, text_on}
+use Rattle.plan_commands.specs.Comparing.{AreCompared, AreComparedAsAsked, AreComparedPlans, AreComparedTexts, AreJoint, AreRefused, AreUncompared, IsAsked, IsNamedOld, IsTextStop, PlansAreCompared, PlansAreRefused, StopsComparing, StopsPlans, StopsTexts, text_on}
 use Rattle.plan_commands.specs.WholePlans.{has_no_box}
 use Rattle.plan_commands.specs.Words.{AsksFail, IsFail}
 

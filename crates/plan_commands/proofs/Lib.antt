@@ -1,5 +1,6 @@
 pub mod WholePlans
 pub mod TestStatuses
+mod RowsStatuses
 mod Comparisons
 mod Unions
 mod Parts

@@ -1,11 +1,11 @@
 -- The lines of a comparison have exactly the parts of the changes, with their zones.
-use Rattle.std.proofs.Common.{◌≡◌, ◌↔◌, ℕ, ◌+◌, ◌<◌, ◌⊎◌, Bool, true, false, IsTrue, inl, inr, List, [], ◌∷◌, ◌++◌, length, get_or, take, Some, None, set, refl, sym, ◌∙◌, subst, arith}
+use Rattle.std.proofs.Common.{◌≡◌, ◌↔◌, ℕ, ◌+◌, ◌<◌, ◌⊎◌, Bool, false, IsTrue, inl, inr, List, [], ◌∷◌, ◌++◌, length, get_or, take, Some, None, set, sym, ◌∙◌, subst, arith}
 use Rattle.std.specs.List.{slice_get}
 use Rattle.std.proofs.lemmas.Bool.{cases_lt, false≢true}
 use Rattle.std.proofs.lemmas.Option.{none-some, same_Some}
 use Rattle.plan_checks.specs.Boxes.{IsInside, OneOf}
 use Rattle.plan_commands.specs.ChangeLines.{AreLinesOf, DifferIn, HasPart, HavePart, HaveZonesWith, IsOnLine}
-use Rattle.plan_commands.specs.ZoneSets.{AreIn, HaveAlso, HaveSameZones, IsOn}
+use Rattle.plan_commands.specs.ZoneSets.{AreIn, HaveSameZones, IsOn}
 use Rattle.plan_commands.specs.declared.change_lines.Line.{Line}
 use Rattle.plan_checks.specs.declared.zone_box.ZoneBox.{ZoneBox}
 use Rattle.plan_commands.specs.declared.zone_sets.ZoneSet.{ZoneSet}

@@ -1,10 +1,10 @@
 -- Joined sides and sets have the zones of both.
-use Rattle.std.proofs.Common.{◌≡◌, ◌↔◌, ℕ, zero, suc, ◌+◌, ◌<◌, ◌⊎◌, inl, inr, List, [], ◌∷◌, ◌++◌, length, get_or, take, drop, Some, set, refl, sym, ◌∙◌, subst, arith}
+use Rattle.std.proofs.Common.{◌≡◌, ℕ, zero, suc, ◌+◌, ◌<◌, ◌⊎◌, inl, inr, List, [], ◌∷◌, ◌++◌, length, get_or, take, Some, set, sym, subst, arith}
 use Rattle.std.specs.List.{insert, slice_get}
 use Rattle.std.proofs.lemmas.Option.{none-some, same_Some}
 use Rattle.plan_commands.specs.declared.zone_sets.ZoneSet.{ZoneSet}
 use Rattle.plan_checks.specs.Boxes.{IsInside, OneOf}
-use Rattle.plan_commands.specs.ZoneSets.{AreIn, HasBoth, HaveAlso, HaveSameZones, IsOn, IsUnion}
+use Rattle.plan_commands.specs.ZoneSets.{HasBoth, HaveAlso, HaveSameZones, IsOn, IsUnion}
 
 -- an element more in a list
 insert_one : {X : Type 0} (P : X → Type 0) (xs : List X) (i : ℕ) (y : X) → OneOf P (insert xs i y) → OneOf P xs ⊎ P y

@@ -2,6 +2,7 @@ pub mod Words
 pub mod ZoneSets
 pub mod ChangeLines
 pub mod Testing
+pub mod Rows
 pub mod WholePlans
 pub mod Comparing
 pub mod Pages

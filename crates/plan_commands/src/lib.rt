@@ -1,7 +1,8 @@
 //! The commands over a plan without claims: each runs a command of the library over the texts that the command line names, prints the line of an error,
 //! and returns an exit status. `value` and the parts that all commands share are in `value_command`.
 //!
-//! Begin with `commands.rt`, which chooses the command. `testing.rt` tests a plan with the rows of a file, and `test_explaining.rt` explains its errors.
+//! Begin with `commands.rt`, which chooses the command. `rows.rt` evaluates the rows of a file, and `testing.rt` tests a plan with them;
+//! `rows_explaining.rt` and `test_explaining.rt` explain the errors.
 //! `whole_check.rt` checks all tables of a plan together; `zone_lines.rt`, `zone_cells.rt` and `dead_lines.rt` have its lines. `names.rt` lists a plan's
 //! names, and `show.rt` shows its tables; `pages.rt` makes and writes what these two show. `words.rt` reads the options, and `lines.rt` prints lines that
 //! are no errors.
@@ -24,6 +25,8 @@ mod lines;
 mod names;
 mod near_names;
 mod pages;
+mod rows;
+mod rows_explaining;
 mod show;
 mod test_explaining;
 mod testing;

@@ -15,11 +15,11 @@ use evaluation::ValueStop;
 use faults::{Reason, push_printable};
 use fixpoint::{Out, put_all};
 use plan_checks::{
-    CompareFault, Comparing, PendingZones, RulePlace, WholeFault, ZONE_LIMIT, ZoneBox, dead_parts,
-    failing_zones, plan_changes,
+    CompareFault, Comparing, DeadParts, PendingZones, RulePlace, TestPlace, WholeFault, ZONE_LIMIT,
+    ZoneBox, dead_parts, failing_zones, plan_changes,
 };
 use plan_pages::{
-    RuleNumber, Shown, balance_header, claim_header, names_text, plan_html, plan_text,
+    RuleNumber, Shown, TestNumber, balance_header, claim_header, names_text, plan_html, plan_text,
 };
 use std::alloc::{AllocError, Global};
 use std::io::Write;
@@ -178,7 +178,8 @@ fn html_on(
         check: "",
         reasons: &[],
         values: "",
-        dead: &[],
+        dead_rules: &[],
+        dead_tests: &[],
         old,
         changes,
     };
@@ -187,13 +188,8 @@ fn html_on(
         Err(WholeFault::OutOfMemory) => Err(AllocError),
         Err(fault) => {
             let unchecked = Shown {
-                name,
                 check: why_unchecked(&fault),
-                reasons: &[],
-                values: "",
-                dead: &[],
-                old,
-                changes,
+                ..shown
             };
             plan_html(alloc, plan, &unchecked)
         }
@@ -237,25 +233,22 @@ fn html_with(
 ) -> Result<Vec<u8>, AllocError> {
     let mut reasons = Vec::new(alloc);
     let mut values = String::new(alloc);
-    let mut dead = Vec::new(alloc);
+    let mut dead_rules = Vec::new(alloc);
+    let mut dead_tests = Vec::new(alloc);
     for zones in found.boxes.as_slice() {
         add_values(alloc, plan, found, zones, &mut values)?;
         add_reason(found, zones, &mut reasons)?;
     }
-    add_dead_rules(alloc, plan, &mut dead)?;
-    plan_html(
-        alloc,
-        plan,
-        &Shown {
-            name: shown.name,
-            check: what_is_found(reasons.is_empty()),
-            reasons: reasons.as_slice(),
-            values: values.as_str(),
-            dead: dead.as_slice(),
-            old: shown.old,
-            changes: shown.changes,
-        },
-    )
+    add_dead(alloc, plan, &mut dead_rules, &mut dead_tests)?;
+    let checked = Shown {
+        check: what_is_found(reasons.is_empty()),
+        reasons: reasons.as_slice(),
+        values: values.as_str(),
+        dead_rules: dead_rules.as_slice(),
+        dead_tests: dead_tests.as_slice(),
+        ..*shown
+    };
+    plan_html(alloc, plan, &checked)
 }
 
 fn what_is_found(is_nothing: bool) -> &'static str {
@@ -266,26 +259,46 @@ fn what_is_found(is_nothing: bool) -> &'static str {
     }
 }
 
-/// Appends the numbers of the rules that never give an answer.
-fn add_dead_rules(
+/// Appends the numbers of the rules that never give an answer, and of the tests that hold for no value.
+fn add_dead(
     alloc: Global,
     plan: &Plan,
-    dead: &mut Vec<RuleNumber>,
+    rules: &mut Vec<RuleNumber>,
+    tests: &mut Vec<TestNumber>,
 ) -> Result<(), AllocError> {
     match dead_parts(alloc, plan, ZONE_LIMIT) {
-        Ok(found) => push_rules(found.rules.as_slice(), dead),
+        Ok(found) => push_dead(&found, rules, tests),
         Err(_) => Err(AllocError),
     }
 }
 
-fn push_rules(rules: &[RulePlace], dead: &mut Vec<RuleNumber>) -> Result<(), AllocError> {
-    for place in rules {
-        dead.push(RuleNumber {
-            table: place.table.saturating_add(1),
-            rule: place.rule.saturating_add(1),
-        })?;
+fn push_dead(
+    found: &DeadParts,
+    rules: &mut Vec<RuleNumber>,
+    tests: &mut Vec<TestNumber>,
+) -> Result<(), AllocError> {
+    for place in found.rules.as_slice() {
+        rules.push(rule_number(*place))?;
+    }
+    for place in found.tests.as_slice() {
+        tests.push(test_number(*place))?;
     }
     Ok(())
+}
+
+fn rule_number(place: RulePlace) -> RuleNumber {
+    RuleNumber {
+        table: place.table.saturating_add(1),
+        rule: place.rule.saturating_add(1),
+    }
+}
+
+fn test_number(place: TestPlace) -> TestNumber {
+    TestNumber {
+        rule: rule_number(place.rule),
+        column: place.column.saturating_add(1),
+        test: place.test.saturating_add(1),
+    }
 }
 
 fn add_reason(

@@ -10,18 +10,16 @@ ghost use Rattle.value_command.specs.Ends.{IsStatusOfRefusal};
 
 use crate::pages::{Asked, put_page};
 use clap::ArgMatches;
-use console::names::{HTML, OLD, OUTPUT};
-use console::{ExitStatus, Sources, input_once, print_error};
+use clap::parser::ValueSource;
+use console::names::{HTML, OLD, OUTPUT, WIDTH};
+use console::{ExitStatus, Sources, input_once};
 use diagnostics::explain_plan;
 use dtable::{PLAN_LIMIT_BYTES, read_plan};
 use evaluation::ValueStop;
 use std::rt::Files;
 use value_command::{About, exit_status_of, plan_of, print_message, read_or_report};
 
-/// The width of lines on a terminal, whose own width is not known.
-const TERMINAL_WIDTH: usize = 80;
-
-/// The width of lines elsewhere.
+/// The width of lines that are not for a terminal, in columns.
 const FILE_WIDTH: usize = 100;
 
 /// Runs the command, and returns its exit status.
@@ -74,21 +72,28 @@ fn show_plan<R: Files + Print + Eprint + AllocGlobal, S: Sources>(
     if about.words.get_str(OLD).is_some() {
         return show_beside(rt, sources, about);
     }
-    put_page(rt, about, asked_of(about.words, about.explains))
+    put_page(rt, about, asked_of(about.words))
 }
 
-/// What is asked for. Where errors are explained, the caller is at a terminal.
-fn asked_of(matches: &ArgMatches<'_>, explains: bool) -> Asked<'static> {
+fn asked_of(matches: &ArgMatches<'_>) -> Asked<'static> {
     if matches.get_flag(HTML) {
         Asked::Html(None)
-    } else if explains && matches.get_str(OUTPUT).is_none() {
-        Asked::Boxes(TERMINAL_WIDTH)
     } else {
-        Asked::Boxes(FILE_WIDTH)
+        Asked::Boxes(width_of(matches))
     }
 }
 
-/// Shows a plan beside an old one.
+/// The width of lines, in columns. That of the terminal is a default value, which is not for the file of `--output`.
+fn width_of(matches: &ArgMatches<'_>) -> usize {
+    let is_given = matches.value_source(WIDTH) == Some(ValueSource::CommandLine);
+    if is_given || matches.get_str(OUTPUT).is_none() {
+        matches.get_one::<usize>(WIDTH).unwrap_or(FILE_WIDTH)
+    } else {
+        FILE_WIDTH
+    }
+}
+
+/// Shows a plan beside an old one, for which the command line asks only with `--html`.
 fn show_beside<R: Files + Print + Eprint + AllocGlobal, S: Sources>(
     rt: &R,
     sources: &S,
@@ -98,9 +103,6 @@ fn show_beside<R: Files + Print + Eprint + AllocGlobal, S: Sources>(
     ensures refused { result ≡ Refused → IsRefusedBeside (S.whole sources.now)
         about.now.words.now about.now.plan.now result }
 {
-    if !about.words.get_flag(HTML) {
-        return print_error(rt, "error: `--compare` needs `--html`", ExitStatus::Usage);
-    }
     match old_plan_of(rt, sources, about) {
         Ok(old) => show_texts(rt, about, old.as_slice()),
         Err(status) => status,

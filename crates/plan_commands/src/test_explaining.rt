@@ -32,7 +32,8 @@ pub fn explain_test<R: Eprint + AllocGlobal>(
     }
 }
 
-fn print_words<R: Eprint + AllocGlobal>(rt: &R, words: Explanation) {
+/// Prints an explanation.
+pub fn print_words<R: Eprint + AllocGlobal>(rt: &R, words: Explanation) {
     print_message(rt, explain(rt.alloc(), words));
 }
 
@@ -71,18 +72,24 @@ fn column_line(
     cases: &[u8],
     fault: CasesFault,
 ) -> Result<String, AllocError> {
-    let mut line = String::new(alloc);
     let (CasesFault::Unknown { column } | CasesFault::Repeated { column }) = fault else {
-        return Ok(line);
+        return Ok(String::new(alloc));
     };
     let name = name_of_column(alloc, cases, column)?;
-    line.push_str("  column ")?;
-    line.push_str(column.to_string(alloc)?.as_str())?;
-    line.push_str(": ")?;
-    push_printable(&mut line, name.as_str())?;
+    let mut line = begin_column(alloc, column, name.as_str())?;
     if matches!(fault, CasesFault::Unknown { .. }) {
         push_near(alloc, &mut line, plan, name.as_str())?;
     }
     line.push_str("\n")?;
+    Ok(line)
+}
+
+/// Returns the beginning of the line that shows a column: its number and its name.
+pub fn begin_column(alloc: Global, column: usize, name: &str) -> Result<String, AllocError> {
+    let mut line = String::new(alloc);
+    line.push_str("  column ")?;
+    line.push_str(column.to_string(alloc)?.as_str())?;
+    line.push_str(": ")?;
+    push_printable(&mut line, name)?;
     Ok(line)
 }

@@ -7,14 +7,14 @@ ghost use Rattle.plan_checks.specs.Stop.{status_of};
 ghost use Rattle.plan_checks.specs.declared.testing.Tested.TheVariants as outcomes;
 ghost use Rattle.plan_commands.specs.Testing.{IsDoneTest, IsNamedCases, IsRefusedTest, TestIsDone, TestIsRefused};
 
-use crate::lines::print_lines;
+use crate::lines::report_open_quote;
 use crate::test_explaining::explain_test;
 use clap::ArgMatches;
 use console::names::CASES;
 use console::{AtomicTarget, ExitStatus, Sources, input_once};
 use fixpoint::Out;
 use plan_checks::{CASES_LIMIT_BYTES, TestStop, Tested, do_test};
-use remarks::{Remarks, ends_in_quotes};
+use remarks::ends_in_quotes;
 use std::io;
 use std::rt::Files;
 use value_command::{
@@ -75,14 +75,6 @@ fn cases_of<R: Eprint + AllocGlobal, S: Sources>(
             Ok(cases)
         }
         None => Err(ExitStatus::Usage),
-    }
-}
-
-// Prints a line if a quoted field of the file is never closed, since the tests after it are lost. If memory runs out for the line, it is left out.
-fn report_open_quote<R: Eprint + AllocGlobal>(rt: &R, name: &str, cases: &[u8]) {
-    let mut remarks = Remarks::new(rt.alloc());
-    if remarks.add_quotes(name, cases, false).is_ok() {
-        print_lines(rt, remarks.lines());
     }
 }
 

@@ -1,5 +1,3 @@
-use Rattle.std.proofs.Common.{rules, subst}
-use Rattle.plan_commands.specs.ZoneSets.{HaveSameZones}
 use Rattle.plan_commands.proofs.Unions.{same_twice}
 use Rattle.plan_commands.proofs.zone_sets.join_sets.Goals as goal
 
