@@ -14,7 +14,7 @@ use clap::{ArgMatches, Error};
 use console::names::{AUDIT, CHECK, COMPARE, EXPLAIN_RECORD, RUN};
 use console::{
     ExitStatus, Sources, explains, grow_stack, matches_of, no_memory, prepare_outputs,
-    program_arguments, usage,
+    program_arguments, terminal_columns, usage,
 };
 use plan_commands::plan_command;
 use std::fs::File;
@@ -37,7 +37,16 @@ where
     if grow_stack(rt.alloc(), words.len()).is_err() {
         return no_memory(rt);
     }
-    let matched = matches_of(rt.alloc(), words.as_slice(), WORKERS_LIMIT);
+    let columns = match terminal_columns(rt, is_watched) {
+        Ok(columns) => columns,
+        Err(status) => return status,
+    };
+    let matched = matches_of(
+        rt.alloc(),
+        words.as_slice(),
+        WORKERS_LIMIT,
+        columns.as_deref(),
+    );
     let locks = match prepare_outputs(rt, &matched, is_watched) {
         Ok(locks) => locks,
         Err(status) => return status,

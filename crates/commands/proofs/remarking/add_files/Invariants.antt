@@ -1,4 +1,4 @@
-use Rattle.std.proofs.Common.{◌≡◌, Bool, false, take}
+use Rattle.std.proofs.Common.{◌≡◌, false, take}
 use Rattle.std.specs.List.{All}
 use Rattle.remarks.specs.Quotes.{EndsInQuotes}
 use Rattle.commands.proofs.remarking.add_files.Given as goal
