@@ -1,5 +1,5 @@
 -- The rows of files, which are read file by file, and their text.
-use Rattle.std.proofs.Common.{◌≡◌, ◌<◌, ◌≤◌, ◌+◌, ◌-◌, ℕ, suc, Bool, Option, Result, Ok, Err, List, [], ◌∷◌, ◌++◌, length, length-take-le, map, take, drop, get_or, ap, ap₂, sym, subst, ◌∙◌, refl, append_assoc, append-nil, take-append-drop, drop-cons, arith}
+use Rattle.std.proofs.Common.{◌≡◌, ◌<◌, ◌≤◌, ◌+◌, ◌-◌, ℕ, suc, Result, Ok, Err, List, [], ◌∷◌, ◌++◌, length, length-take-le, map, take, drop, get_or, ap, ap₂, sym, subst, ◌∙◌, refl, append_assoc, append-nil, take-append-drop, drop-cons, arith}
 use Rattle.std.specs.List.{AllZip}
 use Rattle.std.proofs.lemmas.Grind.{flat_map-append}
 use Rattle.std.proofs.lemmas.List.{take_all, take_more}
@@ -10,11 +10,10 @@ use Rattle.intake_csv.specs.Rows.{AreRowsLeft, AreRowsOf, IsAtStart, RowsLeft}
 use Rattle.intake_csv.specs.declared.rows.Row.{Row}
 use Rattle.remit.specs.Records.{Deciding, record_of, records_of}
 use Rattle.remit.specs.Report.{record_text, text_of}
-use Rattle.remit.specs.RecordWriter.{At, IsNoMemory, Writes, at}
-use Rattle.remit.specs.Rows.{AreRead, Begin, GivesAll, GivesFirst, IsRead, IsReadFirst, WritesFile, WritesFiles, WritesLeft, files_text, rows_text}
+use Rattle.remit.specs.RecordWriter.{At, Writes}
+use Rattle.remit.specs.Rows.{AreRead, Begin, GivesAll, IsRead, IsReadFirst, WritesFile, WritesFiles, files_text, rows_text}
 use Rattle.faults.specs.declared.write_fault.WriteFault.{WriteFault}
-use Rattle.remit.specs.declared.record_writer.RecordWriter.{RecordWriter}
-use Rattle.remit.proofs.Holding.{no-memory, writes-none, writes-then}
+use Rattle.remit.proofs.Holding.{writes-none, writes-then}
 use Rattle.remit.proofs.Passing.{rows-append}
 
 -- the remaining rows of a new reader are all rows of the text
@@ -24,15 +23,6 @@ read-all begins names text start rows apart at_start of_text gives = record {
   are_rows = of_text rows gives.are_rows;
   only = λ all are. gives.only apart all (begins names text start all at_start are);
 }
-
--- the first rows of a new reader are the first rows of the text
-pub read-first : StartHasTheRows → (names : List InputData) (text : List ℕ) (start : RowsLeft) (rows : List Row) → LieApart start.layout.columns → IsAtStart names text start
-    → GivesFirst start rows → IsReadFirst names text rows
-read-first begins names text start rows apart at_start gives all are = gives apart all (begins names text start all at_start are)
-
--- the rows of every text begin with the empty list
-pub read-none : (names : List InputData) (text : List ℕ) → IsReadFirst names text []
-read-none names text all are = record { rest = all; whole_is = refl }
 
 -- a list that corresponds to two lists in sequence is itself in two parts
 pub record Parted {A B : Type 0} (R : A → B → Type 0) (xs ys : List A) (all : List B) : Type 0 where
@@ -161,21 +151,6 @@ begin-next decided names texts place d files rows within size before first all a
 -- the numbers of files and of texts are equal
 pub files-long : (names : List InputData) (texts : List (List ℕ)) (files : List (List Row)) → AreRead names texts files → length files ≡ length texts
 files-long names texts files read = AllZip-long (AreRowsOf names) texts files read.are_rows
-
--- the writing of the remaining rows of a new reader is the writing of the rows of the text
-pub of-text : StartHasTheRows → (decided : Deciding) (provider : ℕ) (names : List InputData) (text : List ℕ) (start : RowsLeft) (old new : At)
-    (result : Result (Unit {0}) WriteFault) → LieApart start.layout.columns → IsAtStart names text start → ((all : List Row) → AreRowsLeft start all → AreRowsOf names text all)
-    → WritesLeft decided provider start old new result → WritesFile decided provider names text old new result
-of-text begins decided provider names text start old new (Ok done) apart at_start of writes =
-    (writes.0, read-all begins names text start writes.0 apart at_start of writes.1, writes.2)
-of-text begins decided provider names text start old new (Err fault) apart at_start of writes =
-    (writes.0, read-first begins names text start writes.0 apart at_start writes.1, writes.2)
-
--- memory runs out for a file
-pub file-no-memory : (decided : Deciding) (provider : ℕ) (names : List InputData) (text : List ℕ) (contents : Option (List ℕ)) (failed : Bool) (writer : RecordWriter)
-    (fault : WriteFault) → IsNoMemory writer fault → WritesFile decided provider names text (at contents failed writer) (at contents failed writer) (Err fault)
-file-no-memory decided provider names text contents failed writer fault none =
-    ([], read-none names text, no-memory contents failed writer writer [] fault none)
 
 -- the rows of the first `place` files are written
 pub record FilesSoFar (decided : Deciding) (names : List InputData) (texts : List (List ℕ)) (place : ℕ) (old new : At) : Type 0 where

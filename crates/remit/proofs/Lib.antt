@@ -2,6 +2,8 @@ pub mod Adding
 pub mod Holding
 pub mod Noting
 pub mod Passing
+pub mod Limiting
+pub mod Cutting
 pub mod RowSummaries
 pub mod Remarking
 pub mod Filing

@@ -2,7 +2,7 @@
 use Rattle.std.specs.Prelude.{◌≡◌, ◌<◌, ◌≤◌, ◌+◌, ◌-◌, ◌*◌, ◌^◌, ◌+ℤ◌, ℕ, suc, ℤ, pos, ◌==◌, cond, List, [], ◌∷◌, get_or, length, ◌++◌, slice_get, slice_index, Option, Some, None, option_map}
 use Rattle.std.specs.Global.{Vec}
 use Rattle.std.specs.Borrow.{Bor}
-use Rattle.std.specs.Option.{option_and_then}
+use Rattle.std.specs.Option.{option_and_then, unwrap_or}
 use Rattle.fixpoint.specs.Number.{greatest_units}
 use Rattle.tables.specs.Environment.{or_else}
 use Rattle.settlement.specs.declared.outcome.Outcome.{Outcome}
@@ -74,6 +74,10 @@ abbrev pub found_of : Decisions → ℕ → ℕ → Option Outcome
 found_of decisions provider place =
     option_and_then (outcome_at decisions.journal.now)
     (option_and_then (λ places. slice_get places.items place) (slice_get decisions.places.items (provider - 1)))
+
+-- the number of a provider's claims that the index has
+abbrev pub claim_count : Decisions → ℕ → ℕ
+claim_count decisions provider = unwrap_or (option_map (λ places. length places.items) (slice_get decisions.places.items (provider - 1))) 0
 
 -- the index has the plan's version, the number of claims that the journal accepts, and for each claim of this number of providers
 -- the journal's decision on the claim's position

@@ -1,5 +1,5 @@
 -- The rows of a file, of a reader or of all files, and the writing of their text.
-use Rattle.std.specs.Prelude.{◌≡◌, ℕ, List, ◌++◌, map, Result, Ok, Err}
+use Rattle.std.specs.Prelude.{◌≡◌, ◌≤◌, ℕ, List, ◌++◌, drop, map, take, Option, Some, None, Result, Ok, Err}
 use Rattle.std.specs.List.{AllZip}
 use Rattle.tables.specs.declared.table.InputData.{InputData}
 use Rattle.intake_csv.specs.Laws.{LieApart}
@@ -28,14 +28,49 @@ pub record GivesAll (left : RowsLeft) (rows : List Row) : Type 0 where
   pub are_rows : AreRowsLeft left rows
   pub only : LieApart left.layout.columns → (all : List Row) → AreRowsLeft left all → all ≡ rows
 
--- if a reader's columns are distinct, its remaining rows begin with these
-abbrev pub GivesFirst : RowsLeft → List Row → Type 0
-GivesFirst left front = LieApart left.layout.columns → (all : List Row) → AreRowsLeft left all → Begin front all
+-- the rows are the returned ones, followed by the remaining rows of the reader
+pub record StartWith (given : List Row) (left : RowsLeft) (rows : List Row) : Type 0 where
+  pub rest : List Row
+  pub rows_are : rows ≡ given ++ rest
+  pub rest_left : AreRowsLeft left rest
 
--- the remaining rows of a reader are written; or the first of them are, before the writing ends with a fault
-abbrev pub WritesLeft : Deciding → ℕ → RowsLeft → At → At → Result (Unit {0}) WriteFault → Type 0
-WritesLeft decided provider left old new (Ok done) = (rows : List Row) × GivesAll left rows × Writes old new (rows_text decided provider rows) (Ok done)
-WritesLeft decided provider left old new (Err fault) = (rows : List Row) × GivesFirst left rows × Writes old new (rows_text decided provider rows) (Err fault)
+-- a reader has returned these rows since its start
+pub record Passed (start now : RowsLeft) (given : List Row) : Type 0 where
+  pub forward : (rest : List Row) → AreRowsLeft now rest → AreRowsLeft start (given ++ rest)
+  pub only : LieApart start.layout.columns → (all : List Row) → AreRowsLeft start all → StartWith given now all
+  pub layout : now.layout ≡ start.layout
+
+-- a reader has passed over this number of rows, or over all that remained
+pub record Skips (old new : RowsLeft) (count : ℕ) : Type 0 where
+  pub given : List Row
+  pub passed : Passed old new given
+  pub counted : (rest : List Row) → AreRowsLeft new rest → rest ≡ drop count (given ++ rest)
+
+-- the number does not exceed the limit, if there is one
+abbrev pub IsWithin : ℕ → Option ℕ → Type 0
+IsWithin count None = Unit {0}
+IsWithin count (Some limit) = count ≤ limit
+
+-- the first rows, at most as many as the limit, if there is one
+abbrev pub up_to : Option ℕ → List Row → List Row
+up_to None rows = rows
+up_to (Some limit) rows = take limit rows
+
+-- these are the remaining rows of a reader up to the limit, if its columns are distinct
+abbrev pub GivesUpTo : Option ℕ → RowsLeft → List Row → Type 0
+GivesUpTo None left rows = GivesAll left rows
+GivesUpTo (Some limit) left rows = LieApart left.layout.columns → (all : List Row) → AreRowsLeft left all → take limit all ≡ rows
+
+-- if a reader's columns are distinct, its remaining rows up to the limit begin with these
+abbrev pub GivesFirst : Option ℕ → RowsLeft → List Row → Type 0
+GivesFirst limit left front = LieApart left.layout.columns → (all : List Row) → AreRowsLeft left all → Begin front (up_to limit all)
+
+-- the remaining rows of a reader up to the limit are written; or the first of them are, before the writing ends with a fault
+abbrev pub WritesLeft : Deciding → ℕ → Option ℕ → RowsLeft → At → At → Result (Unit {0}) WriteFault → Type 0
+WritesLeft decided provider limit left old new (Ok done) =
+    (rows : List Row) × GivesUpTo limit left rows × Writes old new (rows_text decided provider rows) (Ok done)
+WritesLeft decided provider limit left old new (Err fault) =
+    (rows : List Row) × GivesFirst limit left rows × Writes old new (rows_text decided provider rows) (Err fault)
 
 -- these are the rows of the text, and the text has no other rows
 pub record IsRead (names : List InputData) (text : List ℕ) (rows : List Row) : Type 0 where

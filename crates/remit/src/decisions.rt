@@ -1,7 +1,7 @@
 //! An index of a journal's decisions by provider and claim, for lookups in constant time.
 ghost use Rattle.std.specs.Prelude.{◌≡◌, ◌≤◌, ◌<◌, ◌+◌, [], List, ℕ, get_or, length, take, OnOk, IfOk};
 ghost use Rattle.journal.specs.declared.event.Event.{Event as AnyEvent};
-ghost use Rattle.remit.specs.Looked.{LaidOut, Noted, NotesPlace, NotesPosition, Replaces, ReplacesEach, found_of, outcome_at, outcome_in};
+ghost use Rattle.remit.specs.Looked.{LaidOut, Noted, NotesPlace, NotesPosition, Replaces, ReplacesEach, claim_count, found_of, outcome_at, outcome_in};
 
 use claim_gate::Terms;
 use journal::Event;
@@ -69,6 +69,17 @@ impl<'j> Decisions<'j> {
     {
         let places = self.places.get(provider - 1)?;
         outcome_at(self.journal, *places.get(place)?)
+    }
+
+    /// Returns the number of a provider's accepted claims.
+    pub fn claim_count(&self, provider: usize) -> usize
+        requires { 1 ≤ provider }
+        ensures { result ≡ claim_count self.now provider }
+    {
+        match self.places.get(provider - 1) {
+            Some(places) => places.len(),
+            None => 0,
+        }
     }
 
     /// Returns the plan's version.

@@ -2,15 +2,16 @@
 //! providers' files.
 //!
 //! `write_report` writes the remittance of a finished run, and `write_report_by_threads` writes the
-//! same bytes with one more thread for each file after the first. `count_run` counts the records of
-//! a run by their status. `Decisions` finds the outcome of each claim. The rows come from `intake_csv`, the finished run and its journal come
-//! from `claim_gate`, and `csv` writes the records.
+//! same bytes by several threads. `count_run` counts the records of a run by their status.
+//! `Decisions` finds the outcome of each claim. The rows come from `intake_csv`, the finished run
+//! and its journal come from `claim_gate`, and `csv` writes the records.
 //!
 //! Begin with `specs/Records.antt` and `specs/Report.antt`, which define the remittance, and
 //! `specs/Writing.antt`, which defines how much of it a writer has received; then read `report.rt`.
 #![tactic(auto)]
 
 mod amount;
+mod by_threads;
 mod counts;
 mod decisions;
 mod field_texts;

@@ -1,7 +1,7 @@
 //! The remittance of a run: a header, one record for each record of the providers' files, and a
 //! record of totals.
-ghost use Rattle.std.specs.Prelude.{◌≡◌, ◌≤◌, ◌-◌, [], get_or, length, take, IfErr, OnOk, true};
-ghost use Rattle.std.specs.Thread.{IsSync};
+ghost use Rattle.std.specs.Prelude.{◌≡◌, ◌≢◌, ◌≤◌, ◌-◌, [], Some, get_or, length, option_map, IfErr, OnOk, true};
+ghost use Rattle.std.specs.Bool.{OnFalse, OnTrue};
 ghost use Rattle.tables.specs.Plan.{PlanParts};
 ghost use Rattle.fixpoint.specs.Out.{has_failed, writer_of};
 ghost use Rattle.journal.specs.Events.{accepted_count};
@@ -9,17 +9,18 @@ ghost use Rattle.intake_csv.specs.RowSummary.{IsSummaryOf};
 ghost use Rattle.intake_csv.specs.declared.rows.Row.{Row as AnyRow};
 ghost use Rattle.remit.specs.RecordWriter.{IsUnused, Writes, at, gathered_of};
 ghost use Rattle.remit.specs.Looked.{looked_up};
-ghost use Rattle.remit.specs.Sections.{MayBePart};
+ghost use Rattle.remit.specs.Sections.{MayBePart, WritesSection};
 ghost use Rattle.remit.specs.Records.{header_fields, record_of, total_fields};
 ghost use Rattle.remit.specs.Report.{record_text};
-ghost use Rattle.remit.specs.Rows.{WritesFile, WritesFiles, WritesLeft};
+ghost use Rattle.remit.specs.Rows.{WritesFile, WritesLeft};
 ghost use Rattle.remit.specs.Writing.{WritesFront, WritesReport};
 ghost use Rattle.faults.specs.declared.write_fault.WriteCause.TheVariants.{Device, OutOfMemory};
 
+use crate::by_threads::write_files_by_threads;
 use crate::decisions::Decisions;
 use crate::record::{fill_header, fill_row, fill_total};
 use crate::record_writer::RecordWriter;
-use crate::sections::{SectionTooLarge, render_section};
+use crate::sections::{Section, SectionTooLarge, skip_rows};
 use crate::sums::Sums;
 use claim_gate::{Batch, Terms};
 use csv::ByteRecord;
@@ -29,7 +30,7 @@ use intake_csv::{CsvRecord, RowSummary, Rows};
 use journal::Event;
 use std::alloc::{AllocError, Global};
 use std::io::Write;
-use std::thread::{Threads, join_mut};
+use std::thread::Threads;
 
 /// Writes the remittance of a finished run as CSV (RFC 4180): a header, a record for each record of
 /// the providers' files, in the order of the files and of their records, and a record of totals.
@@ -61,13 +62,16 @@ pub fn write_report<W: Write>(
     write_by(&InTurn, alloc, terms, batch, out)
 }
 
-/// Writes the remittance of a finished run, with one more thread for each file after the first.
+/// Writes the remittance of a finished run, with one more thread for each file after the first. If
+/// the first file is long and has nearly all claims, and if there are several processors, two more
+/// threads help with it.
 ///
 /// The caller's thread writes the records of the first file in pieces, while for each other file a
 /// thread renders its section into memory. The caller's thread then writes the sections in the
-/// order of the files. If a section is much longer than its file, as with long remarks, or if
-/// memory runs out for it, the section is dropped, and the caller's thread writes the records of
-/// that file in pieces when their turn comes.
+/// order of the files. The first file is cut into three sections where more threads help with it.
+/// If a section is much longer than its file, as with long remarks, or if memory runs out for it,
+/// the section is dropped, and the caller's thread writes its records in pieces when their turn
+/// comes.
 ///
 /// The bytes and the errors are those of `write_report`.
 pub fn write_report_by_threads<R: Threads + Sync, W: Write>(
@@ -176,7 +180,7 @@ impl Rendering for InTurn {
     }
 }
 
-// The sections of the files after the first are rendered by other threads.
+// Other threads render sections of the files.
 #[derive(Drop)]
 struct ByThreads<'r, R> {
     rt: &'r R,
@@ -198,78 +202,12 @@ impl<R: Threads + Sync> Rendering for ByThreads<'_, R> {
     }
 }
 
-// Writes the rows of the first `providers` files: those of the first file row by row, and those of
-// each other file as a section that another thread has rendered in the meantime.
-#[cycle(files)]
-fn write_files_by_threads<R: Threads + Sync, W: Write>(
-    rt: &R,
-    terms: &Terms,
-    providers: usize,
-    report: &mut Report,
-    out: &mut Out<W>,
-) -> Result<(), WriteFault>
-    requires least { 1 ≤ providers }
-    requires most { providers ≤ length terms.now.files }
-    ensures writes { WritesFiles (looked_up report.old.decisions.now) terms.now.plan.names
-        (take providers terms.now.files)
-        (at (W.contents (writer_of out.old)) (has_failed out.old) report.old.writer)
-        (at (W.contents (writer_of out.new)) (has_failed out.new) report.new.writer) result }
-    ensures decisions { report.new.decisions ≡ report.old.decisions }
-{
-    if providers == 1 {
-        return report.write_file(terms, 1, out);
-    }
-    let (part, written) = write_files_in_front(rt, terms, providers, report, out);
-    written?;
-    report.write_part(terms, providers, part, out)
-}
-
-// Writes the rows of the files before a provider's, while another thread renders the section of
-// that provider. By recursion, the threads of all files start before the first row is written, and
-// each section is written as soon as the sections before it are. If no thread can be started, the
-// caller's thread renders the section after it has written the rows before it.
-#[cycle(files)]
-fn write_files_in_front<R: Threads + Sync, W: Write>(
-    rt: &R,
-    terms: &Terms,
-    provider: usize,
-    report: &mut Report,
-    out: &mut Out<W>,
-) -> (Result<Vec<u8>, SectionTooLarge>, Result<(), WriteFault>)
-    requires least { 2 ≤ provider }
-    requires most { provider ≤ length terms.now.files }
-    ensures part { MayBePart (looked_up report.old.decisions.now) provider terms.now.plan.names
-        (get_or terms.now.files (provider - 1) []) result.0 }
-    ensures writes { WritesFiles (looked_up report.old.decisions.now) terms.now.plan.names
-        (take (provider - 1) terms.now.files)
-        (at (W.contents (writer_of out.old)) (has_failed out.old) report.old.writer)
-        (at (W.contents (writer_of out.new)) (has_failed out.new) report.new.writer) result.1 }
-    ensures decisions { report.new.decisions ≡ report.old.decisions }
-{
-    let (alloc, decisions) = (report.alloc, report.decisions);
-    let in_front = provider - 1;
-    let mut make = || -> Result<Vec<u8>, SectionTooLarge>
-        requires { (1 ≤ provider) × (provider ≤ length terms.now.files) }
-        ensures { MayBePart (looked_up decisions.entry.now) provider terms.entry.now.plan.names
-            (get_or terms.entry.now.files (provider - 1) []) result }
-    { render_section(alloc, terms, decisions, provider) };
-    let mut write = || -> Result<(), WriteFault>
-        requires { IsSync R.row × (1 ≤ in_front) × (in_front ≤ length terms.now.files) }
-        ensures writes { WritesFiles (looked_up report.entry.now.decisions.now)
-            terms.entry.now.plan.names (take in_front terms.entry.now.files)
-            (at (W.contents (writer_of out.entry.now)) (has_failed out.entry.now)
-            report.entry.now.writer)
-            (at (W.contents (writer_of out.exit.now)) (has_failed out.exit.now)
-            report.exit.now.writer) result }
-        ensures decisions { report.exit.now.decisions ≡ report.entry.now.decisions }
-    { write_files_by_threads(rt, terms, in_front, report, out) };
-    join_mut(rt, &mut make, &mut write)
-}
-
 /// A remittance that is being written.
 pub struct Report<'d, 'j> {
-    alloc: Global,
-    decisions: &'d Decisions<'j>,
+    /// The allocator of its buffers.
+    pub alloc: Global,
+    /// The decisions on the claims.
+    pub decisions: &'d Decisions<'j>,
     // The last record that was filled. All records use the same memory.
     line: ByteRecord,
     // The joined remarks of a record. All records use the same memory.
@@ -317,28 +255,28 @@ impl<'d, 'j> Report<'d, 'j> {
         self.writer.write(&self.line, out)
     }
 
-    // Writes the rows of a provider's file from their section, and frees its memory. Without a
-    // section, the rows are rendered and written one by one.
-    fn write_part<W: Write>(
+    /// Writes the rows of a section from their text, and frees its memory. Without a text, the rows
+    /// are rendered and written one by one.
+    pub fn write_part<W: Write>(
         &mut self,
         terms: &Terms,
-        provider: usize,
+        section: Section,
         part: Result<Vec<u8>, SectionTooLarge>,
         out: &mut Out<W>,
     ) -> Result<(), WriteFault>
-        requires least { 1 ≤ provider }
-        requires most { provider ≤ length terms.now.files }
-        requires part { MayBePart (looked_up self.old.decisions.now) provider
-            terms.now.plan.names (get_or terms.now.files (provider - 1) []) part }
-        ensures writes { WritesFile (looked_up self.old.decisions.now) provider
-            terms.now.plan.names (get_or terms.now.files (provider - 1) [])
+        requires least { 1 ≤ section.provider }
+        requires most { section.provider ≤ length terms.now.files }
+        requires part { MayBePart (looked_up self.old.decisions.now) section
+            terms.now.plan.names (get_or terms.now.files (section.provider - 1) []) part }
+        ensures writes { WritesSection (looked_up self.old.decisions.now) section
+            terms.now.plan.names (get_or terms.now.files (section.provider - 1) [])
             (at (W.contents (writer_of out.old)) (has_failed out.old) self.old.writer)
             (at (W.contents (writer_of out.new)) (has_failed out.new) self.new.writer) result }
         ensures decisions { self.new.decisions ≡ self.old.decisions }
     {
         match part {
             Ok(text) => self.writer.write_text(text.as_slice(), out),
-            Err(SectionTooLarge) => self.write_file(terms, provider, out),
+            Err(SectionTooLarge) => self.write_section(terms, section, out),
         }
     }
 
@@ -357,23 +295,45 @@ impl<'d, 'j> Report<'d, 'j> {
             (at (W.contents (writer_of out.new)) (has_failed out.new) self.new.writer) result }
         ensures decisions { self.new.decisions ≡ self.old.decisions }
     {
-        // proof: the remaining rows of a new reader are all rows of the file
-        intake_csv::reader_begins_with_all_rows();
-        match terms.rows(self.alloc, provider) {
-            Ok(rows) => self.write_rows(provider, rows, out),
-            Err(AllocError) => Err(self.writer.no_memory()),
-        }
+        self.write_section(terms, Section::whole_file(provider), out)
     }
 
-    // Writes the remaining rows of a reader.
+    /// Writes the rows of a section, row by row.
+    pub fn write_section<W: Write>(
+        &mut self,
+        terms: &Terms,
+        section: Section,
+        out: &mut Out<W>,
+    ) -> Result<(), WriteFault>
+        requires least { 1 ≤ section.provider }
+        requires most { section.provider ≤ length terms.now.files }
+        ensures writes { WritesSection (looked_up self.old.decisions.now) section
+            terms.now.plan.names (get_or terms.now.files (section.provider - 1) [])
+            (at (W.contents (writer_of out.old)) (has_failed out.old) self.old.writer)
+            (at (W.contents (writer_of out.new)) (has_failed out.new) self.new.writer) result }
+        ensures decisions { self.new.decisions ≡ self.old.decisions }
+    {
+        // proof: the remaining rows of a new reader are all rows of the file
+        intake_csv::reader_begins_with_all_rows();
+        let Ok(mut rows) = terms.rows(self.alloc, section.provider) else {
+            return Err(self.writer.no_memory());
+        };
+        if skip_rows(self.alloc, &mut rows, section.start).is_err() {
+            return Err(self.writer.no_memory());
+        }
+        self.write_rows(section.provider, rows, section.row_limit(), out)
+    }
+
+    // Writes the remaining rows of a reader, but no more than a limit if there is one.
     fn write_rows<W: Write>(
         &mut self,
         provider: usize,
         rows: Rows,
+        limit: Option<usize>,
         out: &mut Out<W>,
     ) -> Result<(), WriteFault>
         requires { 1 ≤ provider }
-        ensures writes { WritesLeft (looked_up self.old.decisions.now) provider rows.entry
+        ensures writes { WritesLeft (looked_up self.old.decisions.now) provider limit rows.entry
             (at (W.contents (writer_of out.old)) (has_failed out.old) self.old.writer)
             (at (W.contents (writer_of out.new)) (has_failed out.new) self.new.writer) result }
         ensures decisions { self.new.decisions ≡ self.old.decisions }
@@ -381,9 +341,12 @@ impl<'d, 'j> Report<'d, 'j> {
         // proof: a reader returns the first of its remaining rows, and no row after the last one
         intake_csv::given_row_is_the_first();
         intake_csv::no_records_give_no_rows();
-        let mut rows = rows;
+        let (mut rows, mut left) = (rows, limit);
         let mut source = CsvRecord::new(self.alloc);
         loop {
+            if is_zero(left) {
+                return Ok(());
+            }
             let Ok(next) = rows.next_summary(&mut source) else {
                 return Err(self.writer.no_memory());
             };
@@ -391,6 +354,7 @@ impl<'d, 'j> Report<'d, 'j> {
                 return Ok(());
             };
             self.write_row(provider, &summary, &source, out)?;
+            left = one_less(left);
         }
     }
 
@@ -455,5 +419,24 @@ impl<'d, 'j> Report<'d, 'j> {
             return Err(self.writer.no_memory());
         }
         self.writer.write(&self.line, out)
+    }
+}
+
+fn is_zero(limit: Option<usize>) -> bool
+    ensures yes { OnTrue result (limit ≡ Some 0) }
+    ensures no { OnFalse result (limit ≢ Some 0) }
+{
+    match limit {
+        Some(rows) => rows == 0,
+        None => false,
+    }
+}
+
+fn one_less(limit: Option<usize>) -> Option<usize>
+    ensures { result ≡ option_map (λ rows. rows - 1) limit }
+{
+    match limit {
+        Some(rows) => Some(rows.saturating_sub(1)),
+        None => None,
     }
 }

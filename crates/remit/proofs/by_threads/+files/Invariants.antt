@@ -1,5 +1,5 @@
 use Rattle.std.proofs.Common.{◌+◌, ◌*◌}
-use Rattle.remit.proofs.report.+files.Given as goal
+use Rattle.remit.proofs.by_threads.+files.Given as goal
 
 abbrev pub decreases-write_files_by_threads : goal.decreases-write_files_by_threads
 decreases-write_files_by_threads g l = 3 * l.providers + 2
