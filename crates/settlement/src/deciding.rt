@@ -80,14 +80,16 @@ impl<'v, V: InputClasses> Adjudicator<'v, V> {
         ensures plan { self.new ≡ self.old }
     {
         self.workspace.bind(alloc, claim, &acc)?;
-        decide_by_class(
+        let decided = decide_by_class(
             alloc,
             self.valuer,
             &self.workspace,
             &mut self.cache,
             claim.billed,
             acc,
-        )
+        )?;
+        self.workspace.keep_remarks(&decided.remarks);
+        Ok(decided)
     }
 }
 

@@ -11,6 +11,9 @@ use std::cmp::Ordering;
 use std::sync::Arc;
 use tables::{OutputPlace, Plan, Sequence, Table};
 
+/// The number of slots for lists of several remarks.
+const LIST_SLOTS: usize = 256;
+
 /// The remark texts of a plan's rules. The remarks of an outcome refer to them by their places.
 ///
 /// A lookup has no contract: the caller compares its result with the texts that it looked up.
@@ -22,6 +25,9 @@ pub struct RemarkTable {
     order: Sequence<u8>,
     /// For each word, the list of remarks with that word alone.
     alone: Sequence<Remarks>,
+    /// Lists of several remarks that outcomes had, each in the slot that its places select. There
+    /// are no slots before the first such list.
+    several: Vec<Option<Remarks>>,
 }
 
 impl Drop for RemarkTable {
@@ -31,6 +37,7 @@ impl Drop for RemarkTable {
             words: _,
             order: _,
             alone: _,
+            several: _,
         } = self;
     }
 }
@@ -56,6 +63,7 @@ impl RemarkTable {
             words,
             order,
             alone,
+            several: Vec::new(alloc),
         })
     }
 
@@ -78,8 +86,46 @@ impl RemarkTable {
         match places.as_slice() {
             [] => Ok(Remarks::none()),
             [place] => self.single_remark(*place),
-            _ => Remarks::from_places(self.alloc, &self.words, places),
+            listed => match self.list_of(listed) {
+                Some(remarks) => remarks.share(),
+                None => Remarks::from_places(self.alloc, &self.words, places),
+            },
         }
+    }
+
+    // Returns the list of the remarks at these places, if an outcome had it.
+    fn list_of(&self, places: &[u8]) -> Option<&Remarks> {
+        let remarks = self.several.get(slot_of(places))?.as_ref()?;
+        if remarks.places()? == places {
+            Some(remarks)
+        } else {
+            None
+        }
+    }
+
+    /// Keeps a list of several remarks, which outcomes with the same remarks then share.
+    pub fn keep(&mut self, remarks: &Remarks) {
+        let Some(places) = remarks.places() else {
+            return;
+        };
+        if places.len() < 2 || self.list_of(places).is_some() {
+            return;
+        }
+        // If memory runs out, the list is not kept.
+        if self.several.is_empty() && self.add_slots().is_err() {
+            return;
+        }
+        if let Some(slot) = self.several.get_mut(slot_of(places)) {
+            *slot = remarks.share().ok();
+        }
+    }
+
+    fn add_slots(&mut self) -> Result<(), AllocError> {
+        self.several.reserve(LIST_SLOTS)?;
+        for _ in 0..LIST_SLOTS {
+            self.several.push(None)?;
+        }
+        Ok(())
     }
 
     fn single_remark(&self, place: u8) -> Result<Remarks, AllocError> {
@@ -103,6 +149,15 @@ impl RemarkTable {
             Err(_) => None,
         }
     }
+}
+
+// Returns the index of the slot of a list with these places.
+fn slot_of(places: &[u8]) -> usize {
+    let mut mixed = 0usize;
+    for place in places {
+        mixed = mixed.wrapping_mul(31).wrapping_add(usize::from(*place));
+    }
+    mixed % LIST_SLOTS
 }
 
 // Returns the index of the text in the sorted order of the words, or the index at which to insert

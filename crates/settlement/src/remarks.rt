@@ -112,6 +112,14 @@ impl Remarks {
         }
     }
 
+    /// Returns the places of the remarks in the shared list of words, or `None` if there is no such list.
+    pub(crate) fn places(&self) -> Option<&[u8]> {
+        match &self.listed {
+            Some(listed) => listed.places(),
+            None => None,
+        }
+    }
+
     /// Returns the number of remarks.
     pub fn len(&self) -> usize
         ensures { result ≡ length self.now }
@@ -145,6 +153,13 @@ impl Remarks {
 }
 
 impl Listed {
+    fn places(&self) -> Option<&[u8]> {
+        match self {
+            Listed::Placed { places, .. } => Some(places.as_slice()),
+            Listed::Own(_) => None,
+        }
+    }
+
     fn len(&self) -> usize
         ensures { result ≡ length (listed_texts self.now) }
     {

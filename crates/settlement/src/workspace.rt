@@ -9,6 +9,7 @@ use crate::acc::Acc;
 use crate::bindings::{bind_inputs, places_read};
 use crate::claim::Claim;
 use crate::remark_table::RemarkTable;
+use crate::remarks::Remarks;
 use crate::role_bindings::{RoleBindings, role_places};
 use std::alloc::{AllocError, Global};
 use tables::{Inputs, Plan, Sequence};
@@ -62,5 +63,12 @@ impl Workspace {
             → IsClaimOf plan claim.now → Serves plan claim.now acc.now self.new.inputs) }
     {
         bind_inputs(alloc, &mut self.inputs, self.places.as_slice(), claim, acc)
+    }
+
+    /// Keeps the remarks of an outcome, so that other outcomes can share them.
+    pub fn keep_remarks(&mut self, remarks: &Remarks)
+        ensures { (plan : PlanParts) → IsWorkspaceOf plan self.old → IsWorkspaceOf plan self.new }
+    {
+        self.remark_table.keep(remarks);
     }
 }

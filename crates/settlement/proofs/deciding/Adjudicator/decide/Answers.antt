@@ -1,7 +1,4 @@
-use Rattle.std.proofs.Common.{◌≡◌, ◌∙◌}
-use Rattle.std.proofs.lemmas.Result.{IfOk-weaker}
-use Rattle.settlement.specs.declared.outcome.Outcome.{Outcome}
-use Rattle.settlement.specs.Settlement.{determination_of, outcome, outcome_from}
+use Rattle.std.proofs.Common.{◌∙◌}
 use Rattle.settlement.proofs.AllBound.{claim_of_seen, ready_where_served}
 use Rattle.settlement.proofs.ReadAlike.{outcome_where_served}
 use Rattle.settlement.proofs.deciding.Adjudicator.decide.Goals as goal
@@ -28,9 +25,7 @@ returns-clause-decided g c =
     let given = c.bind.new.self.inputs in
     let is = claim_of_seen plan c.args.self.now c.args.claim.now c.self.view_is c.requires.fields in
     let serves = c.in_ok-bind.ensures.serves plan c.self.invariant.0 is in
-    let by_given : Outcome → Type 0 = λ decided. decided ≡ outcome_from c.args.claim.now.billed c.args.acc (determination_of plan given) in
-    let by_plan : Outcome → Type 0 = λ decided. decided ≡ outcome c.args.self.now c.args.claim.now c.args.acc in
-    IfOk-weaker c.decide_by_class.result by_given by_plan (λ decided is. is ∙ outcome_where_served plan c.args.self.now c.args.claim.now c.args.acc given c.self.view_is serves) c.decide_by_class.ensures.decided
+    c.in_ok-decided.ensures.decided ∙ outcome_where_served plan c.args.self.now c.args.claim.now c.args.acc given c.self.view_is serves
 
 pub invariant_of-self : goal.invariant_of-self
 invariant_of-self g c =
@@ -38,4 +33,5 @@ invariant_of-self g c =
 
 pub invariant_of-self-2 : goal.invariant_of-self-2
 invariant_of-self-2 g c =
-    (c.bind.ensures.workspace (g.V.Valuer.plan_of c.self.inside.valuer.now) c.self.invariant.0, c.decide_by_class.ensures.true_still)
+    let plan = g.V.Valuer.plan_of c.self.inside.valuer.now in
+    (c.keep_remarks.ensures plan (c.bind.ensures.workspace plan c.self.invariant.0), c.decide_by_class.ensures.true_still)
