@@ -1,14 +1,14 @@
 -- An order of acceptance leaves no choice, and a claim that is due keeps it.
-use Rattle.std.proofs.Common.{◌≡◌, ◌≢◌, ◌<◌, ◌≤◌, ◌+◌, ◌==◌, ◌⊎◌, ℕ, zero, suc, ℤ, ◌<ℤ◌, cond, List, [], ◌∷◌, ◌++◌, flat_map, take, drop, length, get_or, slice_get, Option, Some, None, refl, sym, ap, ◌∙◌, subst, inl, inr, arith, length-append, take-append-drop, eq-eqb}
+use Rattle.std.proofs.Common.{◌≡◌, ◌≢◌, ◌<◌, ◌≤◌, ◌+◌, ◌==◌, ℕ, zero, suc, cond, List, [], ◌∷◌, ◌++◌, flat_map, take, drop, length, get_or, slice_get, Some, refl, sym, ap, ◌∙◌, subst, inl, inr, arith, length-append, take-append-drop, eq-eqb}
 use Rattle.std.proofs.lemmas.Bool.{cases_lt, cond-true}
 use Rattle.std.proofs.lemmas.Int.{ints}
-use Rattle.std.proofs.lemmas.List.{length-take-le, length_push, take-append-le, take_all, take_at, take_more}
+use Rattle.std.proofs.lemmas.List.{length_push, take-append-le, take_all, take_at, take_more}
 use Rattle.std.proofs.lemmas.List.Concat.{flat_map-append}
-use Rattle.std.proofs.lemmas.Option.{same_Some, slice_get-get_or, slice_get_within}
+use Rattle.std.proofs.lemmas.Option.{slice_get-get_or, slice_get_within}
 use Rattle.settlement.specs.declared.claim.Claim.{Claim}
 use Rattle.journal.specs.Terms.{Terms}
 use Rattle.journal.specs.Events.{Filed, accept_in, accepts, places}
-use Rattle.journal.specs.InOrder.{AreFirstInOrder, IsDue, IsInFile, IsNextInOrder, MayComeFirst, filed_count, following_claim, place_of, service_of}
+use Rattle.journal.specs.InOrder.{AreFirstInOrder, IsDue, IsInFile, IsNextInOrder, MayComeFirst, filed_count, following_claim, place_of}
 use Rattle.journal.specs.Lawful.{IsNextClaim}
 use Rattle.journal.specs.declared.event.Event.{Event}
 use Rattle.journal.specs.declared.event.Event.TheVariants.{Accept, End, Close, Take, Decide}

@@ -17,6 +17,7 @@ pub mod Slots
 pub mod Neighbours
 pub mod Numbers
 pub mod Linking
+pub mod Members
 pub mod Links
 pub mod FamilyYears
 pub mod BackLinks

@@ -34,7 +34,7 @@ places_of names slots = map (place_of names) slots
 
 -- there is memory for one more claim in this lane
 pub record HasRoom (queues : FamilyQueues) (lane : ℕ) : Type 0 where
-  pub position : vec_len queues.slots < 2 ^ 32
+  pub position : vec_len queues.slots + 1 < 2 ^ 32
   pub slots : vec_len queues.slots < vec_capacity queues.slots
   pub ends : lane < length queues.ends.positions.items
   pub ready : deque_len queues.ready < deque_capacity queues.ready

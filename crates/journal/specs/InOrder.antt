@@ -3,7 +3,7 @@ use Rattle.std.specs.Prelude.{◌≡◌, ◌≢◌, ◌<◌, ◌≤◌, ◌⊎�
 use Rattle.settlement.specs.declared.claim.Claim.{Claim}
 use Rattle.journal.specs.Terms.{Terms, claims_in}
 use Rattle.journal.specs.Events.{Filed, accepts, places}
-use Rattle.journal.specs.Lawful.{IsNextClaim, Lawful}
+use Rattle.journal.specs.Lawful.{IsNextClaim}
 use Rattle.journal.specs.declared.event.Event.{Event}
 use Rattle.journal.specs.declared.event.Event.TheVariants.{Accept}
 use Rattle.journal.specs.declared.order.Order.{Order}

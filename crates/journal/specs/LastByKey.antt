@@ -1,10 +1,12 @@
 -- The last position of each accumulator key.
-use Rattle.std.specs.Prelude.{◌≡◌, ◌<◌, ℕ, ◌==◌, ◌&&◌, Bool, true, false, get_or, length, if◌then◌else◌, Option, Some, None, IsSome}
+use Rattle.std.specs.Prelude.{◌≡◌, ◌<◌, ℕ, ◌+◌, ◌*◌, ◌%◌, ◌==◌, ◌&&◌, Bool, true, false, get_or, slice_get, length, if◌then◌else◌, Option, Some, None, IsSome}
 use Rattle.std.specs.Option.{option_or}
 use Rattle.std.specs.Ordering.{nat_cmp, ordering_then}
 use Rattle.std.specs.declared.cmp.Ordering.{Ordering}
 use Rattle.std.specs.BTreeMap.{BTreeMap, get}
 use Rattle.journal.specs.declared.last_by_number.LastByNumber.{LastByNumber}
+use Rattle.journal.specs.declared.last_by_member.MemberLast.{MemberLast}
+use Rattle.journal.specs.declared.last_by_member.LastByMember.{LastByMember}
 use Rattle.journal.specs.declared.last_claim_index.Predecessors.{Predecessors}
 use Rattle.journal.specs.declared.last_claim_index.LastClaimIndex.{LastClaimIndex}
 use Rattle.journal.specs.declared.last_by_key.LastByKey.{LastByKey}
@@ -37,17 +39,53 @@ flatten None = None
 flatten (Some last) = last
 
 -- the last position of a key in a map, whose keys may have no position
-abbrev pub last_among : BTreeMap AccumulatorKey (Option ℕ) → AccumulatorKey → Option ℕ
-last_among others key = flatten (get key_cmp others key)
+abbrev pub last_in_map : BTreeMap AccumulatorKey (Option ℕ) → AccumulatorKey → Option ℕ
+last_in_map others key = flatten (get key_cmp others key)
+
+-- the place of the entry for a key: each member has four places, which its years take in turn
+abbrev pub entry_place : AccumulatorKey → ℕ
+entry_place key = key.member * 4 + key.year % 4
+
+-- the entry at the place of a key is of the key
+abbrev pub is_entry_of : MemberLast → AccumulatorKey → Bool
+is_entry_of entry key = (entry.is_used && (entry.family == key.family)) && (entry.year == key.year)
+
+-- there is an entry, and it is of the key
+abbrev pub is_entry_at : Option MemberLast → AccumulatorKey → Bool
+is_entry_at None key = false
+is_entry_at (Some entry) key = is_entry_of entry key
+
+-- there is an entry at the place of the key, and it is of the key
+abbrev pub is_held : LastByMember → AccumulatorKey → Bool
+is_held lasts key = is_entry_at (slice_get lasts.entries.items (entry_place key)) key
+
+-- the last position of a key: in the entry at its place, if this is of the key, and otherwise as in
+-- the map
+abbrev pub last_by_entry : Option MemberLast → AccumulatorKey → Option ℕ → Option ℕ
+last_by_entry None key other = other
+last_by_entry (Some entry) key other = if is_entry_of entry key then entry.last else other
+
+-- the last position of a key in an index that is kept by member
+abbrev pub last_among : LastByMember → AccumulatorKey → Option ℕ
+last_among lasts key = last_by_entry (slice_get lasts.entries.items (entry_place key)) key (last_in_map lasts.others key)
 
 -- the last position of a key
 abbrev pub last_of_key : LastByKey → AccumulatorKey → Option ℕ
 last_of_key lasts key = if is_own_family key then last_of_number lasts.plain key.family else last_among lasts.others key
 
--- the index has room for the key in its list or in its map
+-- the entry is of the key, or else the map has the key
+abbrev pub HasRoomIf : Bool → LastByMember → AccumulatorKey → Type 0
+HasRoomIf true lasts key = Unit {0}
+HasRoomIf false lasts key = IsSome (get key_cmp lasts.others key)
+
+-- the index that is kept by member has room for the key
+abbrev pub HasRoomAmong : LastByMember → AccumulatorKey → Type 0
+HasRoomAmong lasts key = HasRoomIf (is_held lasts key) lasts key
+
+-- the index has room for the key in its list or by its member
 abbrev pub HasRoomBy : Bool → LastByKey → AccumulatorKey → Type 0
 HasRoomBy true lasts key = key.family < length lasts.plain.positions.items
-HasRoomBy false lasts key = IsSome (get key_cmp lasts.others key)
+HasRoomBy false lasts key = HasRoomAmong lasts.others key
 
 -- the index has room for the key
 abbrev pub HasRoomFor : LastByKey → AccumulatorKey → Type 0

@@ -12,5 +12,6 @@ pub mod InOrder
 pub mod Places
 pub mod Calls
 pub mod Names
+pub mod Links
 pub mod LastByKey
 pub mod FamilyQueues

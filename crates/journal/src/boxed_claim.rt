@@ -33,6 +33,23 @@ impl BoxedClaim {
         }
     }
 
+    /// Moves the claim to a spare box, whose own claim is dropped, or to the heap if there is no
+    /// spare box. If memory runs out, the claim is returned.
+    pub fn in_spare(
+        alloc: Global,
+        spare: &mut Vec<BoxedClaim>,
+        claim: Claim,
+    ) -> Result<BoxedClaim, AllocFailed<Claim>>
+        ensures value { IfOk result (λ stored. stored ≡ claim) }
+        ensures back { IfErr result (λ failed. failed.value ≡ claim) }
+    {
+        let Some(mut stored) = spare.pop() else {
+            return BoxedClaim::new(alloc, claim);
+        };
+        *stored.claim = claim;
+        Ok(stored)
+    }
+
     /// Returns the claim.
     pub fn as_claim(&self) -> &Claim
         ensures { result.now ≡ self.now }

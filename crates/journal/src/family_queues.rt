@@ -1,6 +1,6 @@
 //! The slots of all claims. Each slot has links to the next claim of its family and back to the
 //! last claims of its account and family, and a queue has the positions of the ready claims.
-ghost use Rattle.std.specs.Prelude.{◌≡◌, ◌<◌, ◌++◌, ◌∷◌, [], ℕ, Some, None, cond, vec_len, vec_capacity, OnOk, OnErr, IfErr, MatchOption, if◌then◌else◌};
+ghost use Rattle.std.specs.Prelude.{◌≡◌, ◌<◌, ◌+◌, ◌^◌, ◌++◌, ◌∷◌, [], ℕ, Some, None, cond, vec_len, vec_capacity, OnOk, OnErr, IfErr, MatchOption, if◌then◌else◌};
 ghost use Rattle.std.specs.VecDeque.{deque_len, deque_capacity};
 ghost use Rattle.journal.specs.LastByKey.{AccumulatorKey as AnyKey, last_of_number, last_of_key, family_year_in};
 ghost use Rattle.journal.specs.Places.{is_ready};
@@ -13,6 +13,7 @@ use crate::boxed_claim::BoxedClaim;
 use crate::index32::to_u32;
 use crate::last_by_number::LastByNumber;
 use crate::last_claim_index::LastClaimIndex;
+use crate::link::Link;
 use crate::phase::Phase;
 use crate::ready_claim::ReadyClaim;
 use crate::slot::{Slot, left_at};
@@ -65,7 +66,8 @@ impl FamilyQueues {
         ensures same { AreAs self.old self.new }
         ensures room { OnOk result (HasRoom self.new lane) }
     {
-        let _position = to_u32(self.slots.len())?;
+        // A link stores one more than the position.
+        let _stored = to_u32(self.slots.len() + 1)?;
         self.slots.reserve(1)?;
         self.ready.reserve(1)?;
         self.ends.prepare(lane)
@@ -91,13 +93,13 @@ impl FamilyQueues {
         let Ok(following) = self.lasts.put(key, position) else {
             return Err(AllocFailed { value: claim });
         };
-        let phase = match self.ends.put(key.family, Some(position)) {
+        let phase = match self.ends.put(key.family, Link::to(position)).position() {
             Some(last) => self.follow(last, position, claim),
             None => Phase::Ready(claim),
         };
         self.put(Slot {
             key,
-            next: None,
+            next: Link::none(),
             own: following.own,
             family_year: following.family_year,
             phase,
@@ -107,11 +109,12 @@ impl FamilyQueues {
 
     // Links the last slot of a lane to the next one, and returns the phase of the claim there.
     fn follow(&mut self, last: u32, next: u32, claim: BoxedClaim) -> Phase
-        requires { last < vec_len self.old.slots }
+        requires within { last < vec_len self.old.slots }
+        requires fits { next + 1 < 2 ^ 32 }
         ensures { Follows self.old self.new last next claim result }
     {
         let before = &mut self.slots[last as usize];
-        before.next = Some(next);
+        before.next = Link::to(next);
         before.phase.next_phase(claim)
     }
 
@@ -143,7 +146,7 @@ impl FamilyQueues {
         ensures lasts { self.new.lasts ≡ self.old.lasts }
         ensures refused { OnErr result (AreAs self.old self.new) }
     {
-        match self.slots[position].next {
+        match self.slots[position].next.position() {
             Some(next) => {
                 let next = next as usize;
                 self.ready.push_back(next)?;

@@ -6,6 +6,7 @@
 //! costs only time: if all names of a provider have one hash, lookups are as fast as the tree.
 
 use feel_tests::Text;
+use settlement::Claim;
 use std::alloc::Global;
 use std::mem::replace;
 
@@ -40,6 +41,27 @@ impl NameLookup {
             bits: hash_of(name),
             candidate: None,
         }
+    }
+}
+
+/// The lookups of the names of a claim.
+#[derive(Clone, Copy)]
+pub struct ClaimLookup {
+    /// The lookup of the family's name.
+    pub family: NameLookup,
+    /// The lookup of the member's name.
+    pub member: NameLookup,
+}
+
+impl ClaimLookup {
+    /// Hashes the names of a claim. A claim without a family has one name.
+    pub fn new(claim: &Claim) -> ClaimLookup {
+        let member = NameLookup::new(&claim.member);
+        let family = match &claim.family {
+            Some(family) => NameLookup::new(family),
+            None => member,
+        };
+        ClaimLookup { family, member }
     }
 }
 

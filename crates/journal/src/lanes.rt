@@ -9,11 +9,10 @@ ghost use Rattle.journal.specs.FamilyQueues.{IsKeyOf};
 use crate::accumulator_key::AccumulatorKey;
 use crate::boxed_claim::BoxedClaim;
 use crate::family_queues::FamilyQueues;
-use crate::hints::NameLookup;
+use crate::hints::ClaimLookup;
 use crate::names::Names;
 use crate::prefetcher::Prefetcher;
 use crate::ready_claim::ReadyClaim;
-use feel_tests::Text;
 use settlement::{Acc, Claim};
 use std::alloc::{AllocError, AllocFailed, Global};
 use std::marker::Model;
@@ -68,8 +67,8 @@ impl Lanes {
     }
 
     /// Appends a claim of its member's account in a benefit year, which is 0 if the plan does not
-    /// keep accumulators by benefit year. If memory runs out, or if there are 2^32 claims already,
-    /// the claim is returned and the lanes are unchanged.
+    /// keep accumulators by benefit year. If memory runs out, or if there are 2^32 - 1 claims
+    /// already, the claim is returned and the lanes are unchanged.
     pub fn add(&mut self, claim: BoxedClaim, year: u16) -> Result<(), AllocFailed<BoxedClaim>>
         ensures added { IfOk result (λ _.
             self.new ≡ self.old ++ next_place self.old claim year ∷ []) }
@@ -132,22 +131,22 @@ impl Lanes {
     }
 }
 
-// Returns the key of a claim's account in a year. New names get a number. The lookup of the family
+// Returns the key of a claim's account in a year. New names get a number. The lookup of the names
 // is the prefetched one, if there is one.
 #[tactic(auto, using(crate::proofs::Growing::grows_on, crate::proofs::Growing::key_alone, crate::proofs::Growing::key_apart))]
 fn key_of(
     names: &mut Names,
     claim: &Claim,
     year: u16,
-    prefetched: Option<NameLookup>,
+    prefetched: Option<ClaimLookup>,
 ) -> Result<AccumulatorKey, AllocError>
     ensures key { IfOk result (λ key. IsKeyOf names.new key (account_in year claim.now)) }
     ensures grows { Grows names.old names.new }
     ensures distinct { AreDistinct names.new }
 {
     let family = claim.family();
-    let lookup = lookup_of(family, prefetched);
-    let lane = names.number(family, lookup)?;
+    let lookup = lookup_of(claim, prefetched);
+    let lane = names.number(family, lookup.family)?;
     let member = &claim.member;
     if member.as_str() == family.as_str() {
         return Ok(AccumulatorKey {
@@ -156,7 +155,7 @@ fn key_of(
             year,
         });
     }
-    let number = names.number(member, NameLookup::new(member))?;
+    let number = names.number(member, lookup.member)?;
     Ok(AccumulatorKey {
         family: lane,
         member: number,
@@ -164,9 +163,9 @@ fn key_of(
     })
 }
 
-fn lookup_of(name: &Text, prefetched: Option<NameLookup>) -> NameLookup {
+fn lookup_of(claim: &Claim, prefetched: Option<ClaimLookup>) -> ClaimLookup {
     match prefetched {
         Some(lookup) => lookup,
-        None => NameLookup::new(name),
+        None => ClaimLookup::new(claim),
     }
 }

@@ -1,20 +1,20 @@
 //! The position of the last claim of each accumulator key.
-ghost use Rattle.std.specs.Prelude.{◌≡◌, ◌<◌, Some, None, cond, length, if◌then◌else◌, IfOk, OnOk, OnErr, IsSome};
-ghost use Rattle.std.specs.BTreeMap.{get};
-ghost use Rattle.journal.specs.LastByKey.{AccumulatorKey as AnyKey, HasRoomFor, last_of_key, last_among, is_key, key_cmp, replaced};
+ghost use Rattle.std.specs.Prelude.{◌≡◌, ◌<◌, ◌+◌, ◌^◌, Some, None, cond, IfOk, OnOk, OnErr};
+ghost use Rattle.journal.specs.LastByKey.{AccumulatorKey as AnyKey, HasRoomFor, last_of_key, is_key, replaced};
 
 use crate::accumulator_key::AccumulatorKey;
-use crate::last_by_number::{LastByNumber, replace_if_set};
+use crate::last_by_member::LastByMember;
+use crate::last_by_number::LastByNumber;
+use crate::link::Link;
 use std::alloc::{AllocError, Global};
-use std::collections::BTreeMap;
 
 /// The last position of each key that has one.
 ///
-/// A member who is its own family, in year 0, is found by its number, since a list takes less
-/// memory than a map. A key in the map may have no position. Each call searches the map once.
+/// A member who is its own family, in year 0, is found by its number alone, which takes the least
+/// memory: under a plan without families and years, all keys are of this kind.
 pub struct LastByKey {
     pub plain: LastByNumber,
-    pub others: BTreeMap<AccumulatorKey, Option<u32>>,
+    pub others: LastByMember,
 }
 
 impl Drop for LastByKey {
@@ -33,24 +33,25 @@ impl LastByKey {
     {
         LastByKey {
             plain: LastByNumber::new(alloc),
-            others: BTreeMap::new(alloc),
+            others: LastByMember::new(alloc),
         }
     }
 
     /// Returns the last position of a key.
-    pub fn last_position(&self, key: AccumulatorKey) -> Option<u32>
+    pub fn last_position(&self, key: AccumulatorKey) -> Link
         ensures { result ≡ last_of_key self.now key }
     {
         if key.is_own_family() {
             self.plain.last_of(key.family)
         } else {
-            self.others.get(&key).copied().flatten()
+            self.others.last_position(key)
         }
     }
 
     /// Sets the last position of a key and returns the previous one. If memory runs out, all
     /// positions are unchanged.
-    pub fn put(&mut self, key: AccumulatorKey, position: u32) -> Result<Option<u32>, AllocError>
+    pub fn put(&mut self, key: AccumulatorKey, position: u32) -> Result<Link, AllocError>
+        requires { position + 1 < 2 ^ 32 }
         ensures before { IfOk result (λ before. before ≡ last_of_key self.old key) }
         ensures found { OnOk result ((q : AnyKey) → last_of_key self.new q
             ≡ cond (is_key key q) (Some position) (last_of_key self.old q)) }
@@ -60,15 +61,15 @@ impl LastByKey {
     {
         if key.is_own_family() {
             self.plain.prepare(key.family)?;
-            Ok(self.plain.put(key.family, Some(position)))
+            Ok(self.plain.put(key.family, Link::to(position)))
         } else {
-            let before = self.others.insert(key, Some(position))?;
-            Ok(before.flatten())
+            self.others.put(key, position)
         }
     }
 
     /// Replaces the last position of a key, if it has one, and returns the previous one.
-    pub fn replace_existing(&mut self, key: AccumulatorKey, position: u32) -> Option<u32>
+    pub fn replace_existing(&mut self, key: AccumulatorKey, position: u32) -> Link
+        requires { position + 1 < 2 ^ 32 }
         ensures before { result ≡ last_of_key self.old key }
         ensures found { (q : AnyKey) → last_of_key self.new q
             ≡ cond (is_key key q) (replaced (last_of_key self.old key) position)
@@ -77,12 +78,12 @@ impl LastByKey {
         if key.is_own_family() {
             self.plain.replace_existing(key.family, position)
         } else {
-            replace_existing(&mut self.others, key, position)
+            self.others.replace_existing(key, position)
         }
     }
 
     /// Sets or clears the last position of a key that has room in the index.
-    pub fn set(&mut self, key: AccumulatorKey, position: Option<u32>)
+    pub fn set(&mut self, key: AccumulatorKey, position: Link)
         requires { HasRoomFor self.old key }
         ensures { (q : AnyKey) → last_of_key self.new q
             ≡ cond (is_key key q) position (last_of_key self.old q) }
@@ -90,39 +91,7 @@ impl LastByKey {
         if key.is_own_family() {
             let _before = self.plain.put(key.family, position);
         } else {
-            set(&mut self.others, key, position);
+            self.others.set(key, position);
         }
-    }
-}
-
-fn replace_existing(
-    others: &mut BTreeMap<AccumulatorKey, Option<u32>>,
-    key: AccumulatorKey,
-    position: u32,
-) -> Option<u32>
-    ensures before { result ≡ last_among others.old key }
-    ensures found { (q : AnyKey) → last_among others.new q
-        ≡ cond (is_key key q)
-        (replaced (last_among others.old key) position)
-        (last_among others.old q) }
-{
-    match others.get_mut(&key) {
-        Some(last) => replace_if_set(last, position),
-        None => None,
-    }
-}
-
-fn set(
-    others: &mut BTreeMap<AccumulatorKey, Option<u32>>,
-    key: AccumulatorKey,
-    position: Option<u32>,
-)
-    requires { IsSome (get key_cmp others.old key) }
-    ensures { (q : AnyKey) → last_among others.new q
-        ≡ cond (is_key key q) position (last_among others.old q) }
-{
-    match others.get_mut(&key) {
-        Some(last) => *last = position,
-        None => unreachable!(),
     }
 }

@@ -1,14 +1,15 @@
 //! The position of the last claim of each number of a name.
-ghost use Rattle.std.specs.Prelude.{◌≡◌, ◌<◌, ◌==◌, ℕ, None, [], cond, length, OnOk};
+ghost use Rattle.std.specs.Prelude.{◌≡◌, ◌<◌, ◌==◌, ◌+◌, ◌^◌, ℕ, None, [], cond, length, OnOk};
 ghost use Rattle.journal.specs.LastByKey.{last_of_number, replaced};
 
+use crate::link::Link;
 use std::alloc::{AllocError, Global};
 use std::mem::replace;
 
 /// The last position of each number that has one.
 #[derive(Drop)]
 pub struct LastByNumber {
-    pub positions: Vec<Option<u32>>,
+    pub positions: Vec<Link>,
 }
 
 impl LastByNumber {
@@ -22,10 +23,13 @@ impl LastByNumber {
     }
 
     /// Returns the last position of a number.
-    pub fn last_of(&self, number: u32) -> Option<u32>
+    pub fn last_of(&self, number: u32) -> Link
         ensures { result ≡ last_of_number self.now number }
     {
-        self.positions.get(number as usize).copied().flatten()
+        match self.positions.get(number as usize) {
+            Some(last) => *last,
+            None => Link::none(),
+        }
     }
 
     /// Makes room for a number. All positions are unchanged.
@@ -37,11 +41,11 @@ impl LastByNumber {
         if number < self.positions.len() {
             return Ok(());
         }
-        self.positions.resize(number + 1, None)
+        self.positions.resize(number + 1, Link::none())
     }
 
     /// Sets or clears the last position of a number that has room, and returns the previous one.
-    pub fn put(&mut self, number: u32, position: Option<u32>) -> Option<u32>
+    pub fn put(&mut self, number: u32, position: Link) -> Link
         requires { number < length self.old.positions.items }
         ensures before { result ≡ last_of_number self.old number }
         ensures found { (n : ℕ) → last_of_number self.new n
@@ -51,7 +55,8 @@ impl LastByNumber {
     }
 
     /// Replaces the last position of a number, if it has one, and returns the previous one.
-    pub fn replace_existing(&mut self, number: u32, position: u32) -> Option<u32>
+    pub fn replace_existing(&mut self, number: u32, position: u32) -> Link
+        requires { position + 1 < 2 ^ 32 }
         ensures before { result ≡ last_of_number self.old number }
         ensures found { (n : ℕ) → last_of_number self.new n
             ≡ cond (number == n)
@@ -60,19 +65,20 @@ impl LastByNumber {
     {
         match self.positions.get_mut(number as usize) {
             Some(last) => replace_if_set(last, position),
-            None => None,
+            None => Link::none(),
         }
     }
 }
 
 /// Replaces a position, if there is one, and returns the previous one.
-pub fn replace_if_set(last: &mut Option<u32>, position: u32) -> Option<u32>
+pub fn replace_if_set(last: &mut Link, position: u32) -> Link
+    requires { position + 1 < 2 ^ 32 }
     ensures before { result ≡ last.old }
     ensures after { last.new ≡ replaced last.old position }
 {
     let before = *last;
-    if before.is_some() {
-        *last = Some(position);
+    if before.position().is_some() {
+        *last = Link::to(position);
     }
     before
 }

@@ -1,9 +1,10 @@
 //! The index of the last claims of all accounts and families.
-ghost use Rattle.std.specs.Prelude.{◌≡◌, ◌==◌, true, false, Some, None, cond, IfOk, OnOk, OnErr};
+ghost use Rattle.std.specs.Prelude.{◌≡◌, ◌==◌, ◌<◌, ◌+◌, ◌^◌, true, false, Some, None, cond, IfOk, OnOk, OnErr};
 ghost use Rattle.journal.specs.LastByKey.{AccumulatorKey as AnyKey, AreFoundAlike, IsAfter, last_of_key, family_key, family_year_in, is_key};
 
 use crate::accumulator_key::AccumulatorKey;
 use crate::last_by_key::LastByKey;
+use crate::link::Link;
 use std::alloc::{AllocError, Global};
 
 /// The position of the last claim of each account, and of each family in a year.
@@ -29,9 +30,9 @@ impl Drop for LastClaimIndex {
 #[derive(Clone, Copy)]
 pub struct Predecessors {
     /// The position of the last earlier claim of its account.
-    pub own: Option<u32>,
+    pub own: Link,
     /// The position of the last earlier claim of its family and year.
-    pub family_year: Option<u32>,
+    pub family_year: Link,
 }
 
 impl LastClaimIndex {
@@ -49,6 +50,7 @@ impl LastClaimIndex {
     /// Sets the last claim of an account and of its family and year, and returns the previous ones.
     /// If memory runs out, the index is unchanged.
     pub fn put(&mut self, key: AccumulatorKey, position: u32) -> Result<Predecessors, AllocError>
+        requires { position + 1 < 2 ^ 32 }
         ensures following { IfOk result (IsAfter self.old key) }
         ensures accounts { OnOk result ((q : AnyKey) → last_of_key self.new.accounts q
             ≡ cond (is_key key q) (Some position) (last_of_key self.old.accounts q)) }
@@ -71,7 +73,8 @@ impl LastClaimIndex {
         key: AccumulatorKey,
         position: u32,
     ) -> Result<Predecessors, AllocError>
-        requires { key.family == key.member ≡ true }
+        requires same { key.family == key.member ≡ true }
+        requires fits { position + 1 < 2 ^ 32 }
         ensures following { IfOk result (IsAfter self.old key) }
         ensures accounts { OnOk result ((q : AnyKey) → last_of_key self.new.accounts q
             ≡ cond (is_key key q) (Some position) (last_of_key self.old.accounts q)) }
@@ -92,7 +95,8 @@ impl LastClaimIndex {
         key: AccumulatorKey,
         position: u32,
     ) -> Result<Predecessors, AllocError>
-        requires { key.family == key.member ≡ false }
+        requires other { key.family == key.member ≡ false }
+        requires fits { position + 1 < 2 ^ 32 }
         ensures following { IfOk result (IsAfter self.old key) }
         ensures accounts { OnOk result ((q : AnyKey) → last_of_key self.new.accounts q
             ≡ cond (is_key key q) (Some position) (last_of_key self.old.accounts q)) }
@@ -105,14 +109,16 @@ impl LastClaimIndex {
         let family_key = key.family_key();
         let own = self.accounts.put(key, position)?;
         match self.family_years.put(family_key, position) {
-            Ok(Some(last)) => Ok(Predecessors {
-                own,
-                family_year: Some(last),
-            }),
-            Ok(None) => Ok(Predecessors {
-                own,
-                family_year: self.accounts.last_position(family_key),
-            }),
+            Ok(last) => match last.position() {
+                Some(_) => Ok(Predecessors {
+                    own,
+                    family_year: last,
+                }),
+                None => Ok(Predecessors {
+                    own,
+                    family_year: self.accounts.last_position(family_key),
+                }),
+            },
             Err(refused) => {
                 self.accounts.set(key, own);
                 Err(refused)

@@ -1,16 +1,18 @@
 //! The prefetcher: it reads the memory that the next calls need, for several claims at once.
 //!
-//! To take a claim, a call reads two places that are not in the processor's cache: the claim's slot
-//! and the slot of the last claim of its account. To add a claim, a call reads its family's name,
-//! the last claims of its account and family, and their slots. The reads for one claim depend on
-//! each other, so the processor waits for each of them. The reads for several claims are
-//! independent, and the processor makes them in parallel. The prefetcher has no contract, and no
-//! result depends on it.
+//! To take a claim, a call reads places that are not in the processor's cache: the claim's slot and
+//! the slots of the last claims of its account and family. To add a claim, a call reads the names of
+//! its family and member, the last claims of its account and family, and their slots. The reads for
+//! one claim depend on each other, so the processor waits for each of them. The reads for several
+//! claims are independent, and the processor makes them in parallel. The prefetcher has no contract,
+//! and no result depends on it.
 
 use crate::boxed_claim::BoxedClaim;
 use crate::family_queues::FamilyQueues;
-use crate::hints::NameLookup;
-use crate::last_by_number::LastByNumber;
+use crate::hints::ClaimLookup;
+use crate::last_by_key::LastByKey;
+use crate::last_by_member::ENTRIES_A_MEMBER;
+use crate::link::Link;
 use crate::names::Names;
 use crate::slot::Slot;
 use std::alloc::Global;
@@ -20,13 +22,13 @@ use std::alloc::Global;
 const CLAIMS_AT_ONCE: usize = 12;
 
 /// The state of the prefetcher: the number of claims in the queue that are already prefetched, the
-/// lookups of the families of the next claims to be added, and the number of these that were added.
+/// lookups of the names of the next claims to be added, and the number of these that were added.
 /// `read` is computed from the memory that was read; without it, the compiler could leave out the
 /// reads.
 #[derive(Drop)]
 pub struct Prefetcher {
     fetched: usize,
-    coming: Vec<NameLookup>,
+    coming: Vec<ClaimLookup>,
     added: usize,
     read: usize,
 }
@@ -60,24 +62,25 @@ impl Prefetcher {
         self.read = read;
     }
 
-    /// Prepares the lookups of the families of these claims, before they are added.
+    /// Prepares the lookups of the names of these claims, before they are added.
     pub fn prefetch(&mut self, names: &Names, claims: &[BoxedClaim]) {
         self.coming.clear();
         self.added = 0;
         for claim in claims {
-            // If memory runs out, the remaining families are looked up without a prefetch.
-            let Ok(()) = self.coming.push(NameLookup::new(claim.as_claim().family())) else {
+            // If memory runs out, the remaining names are looked up without a prefetch.
+            let Ok(()) = self.coming.push(ClaimLookup::new(claim.as_claim())) else {
                 break;
             };
         }
         for lookup in self.coming.iter_mut() {
-            lookup.candidate = names.hint_of(lookup.bits);
+            lookup.family.candidate = names.hint_of(lookup.family.bits);
+            lookup.member.candidate = names.hint_of(lookup.member.bits);
         }
     }
 
     /// Prefetches the memory for the next claim to be added and for some after it, unless that is
-    /// done, and returns the lookup of its family. It is called before a claim is added.
-    pub fn fetch_added(&mut self, names: &Names, queues: &FamilyQueues) -> Option<NameLookup> {
+    /// done, and returns the lookup of its names. It is called before a claim is added.
+    pub fn fetch_added(&mut self, names: &Names, queues: &FamilyQueues) -> Option<ClaimLookup> {
         let lookup = self.coming.get(self.added).copied()?;
         if self.added % CLAIMS_AT_ONCE == 0 {
             let read = self.read_of_coming(names, queues);
@@ -89,14 +92,12 @@ impl Prefetcher {
 
     // Reads the memory for the next claims to be added, and returns a number computed from it.
     fn read_of_coming(&self, names: &Names, queues: &FamilyQueues) -> usize {
-        let mut lasts = [None; CLAIMS_AT_ONCE];
+        let mut lasts = [Link::none(); CLAIMS_AT_ONCE];
         let mut read = 0usize;
         for (place, last) in lasts.iter_mut().enumerate() {
-            if let Some(number) = self.candidate_at(self.added.saturating_add(place)) {
-                read = read.wrapping_add(names.bytes_of(number));
-                read = read.wrapping_add(position_in(&queues.lasts.family_years.plain, number));
-                read = read.wrapping_add(position_in(&queues.lasts.accounts.plain, number));
-                *last = queues.ends.last_of(number);
+            if let Some(coming) = self.coming.get(self.added.saturating_add(place)) {
+                read = read.wrapping_add(names_of(coming, names, queues));
+                *last = end_of(coming, queues);
             }
         }
         for last in &lasts {
@@ -104,9 +105,28 @@ impl Prefetcher {
         }
         read
     }
+}
 
-    fn candidate_at(&self, place: usize) -> Option<u32> {
-        self.coming.get(place)?.candidate
+// Reads the names of a claim and the places of its last positions, and returns a number computed
+// from them.
+fn names_of(coming: &ClaimLookup, names: &Names, queues: &FamilyQueues) -> usize {
+    let mut read = 0usize;
+    if let Some(family) = coming.family.candidate {
+        read = read.wrapping_add(names.bytes_of(family));
+        read = read.wrapping_add(position_in(&queues.lasts.family_years, family));
+    }
+    if let Some(member) = coming.member.candidate {
+        read = read.wrapping_add(names.bytes_of(member));
+        read = read.wrapping_add(position_in(&queues.lasts.accounts, member));
+    }
+    read
+}
+
+// The last claim of a claim's family.
+fn end_of(coming: &ClaimLookup, queues: &FamilyQueues) -> Link {
+    match coming.family.candidate {
+        Some(family) => queues.ends.last_of(family),
+        None => Link::none(),
     }
 }
 
@@ -118,22 +138,29 @@ fn slot_of(queues: &FamilyQueues, place: usize) -> Option<&Slot> {
 // Reads a slot, and returns a number computed from it.
 fn before(slot: Option<&Slot>) -> usize {
     match slot {
-        Some(slot) => slot.own.map_or(0, |own| own as usize),
+        Some(slot) => index_of(slot.own)
+            .wrapping_add(index_of(slot.family_year))
+            .wrapping_add(usize::from(slot.phase.is_ready())),
         None => 0,
     }
 }
 
-// Reads the slot of the last claim of the slot's account, and returns a number computed from it.
+// Reads the slots of the last claims of the slot's account and of its family and year, and returns
+// a number computed from them.
 fn left_before(queues: &FamilyQueues, slot: Option<&Slot>) -> usize {
     match slot {
-        Some(slot) => left_by(queues, slot.own),
+        Some(slot) => left_by(queues, slot.own).wrapping_add(left_by(queues, slot.family_year)),
         None => 0,
     }
+}
+
+fn slot_at(queues: &FamilyQueues, last: Link) -> Option<&Slot> {
+    queues.slots.get(last.position()? as usize)
 }
 
 // Reads the slot at a position and its accumulators, and returns a number computed from them.
-fn left_by(queues: &FamilyQueues, position: Option<u32>) -> usize {
-    match position.and_then(|position| queues.slots.get(position as usize)) {
+fn left_by(queues: &FamilyQueues, last: Link) -> usize {
+    match slot_at(queues, last) {
         Some(slot) => match slot.phase.left_acc() {
             Some(left) => usize::from(left.foop == left.met),
             None => 1,
@@ -142,6 +169,22 @@ fn left_by(queues: &FamilyQueues, position: Option<u32>) -> usize {
     }
 }
 
-fn position_in(ends: &LastByNumber, number: u32) -> usize {
-    ends.last_of(number).map_or(0, |position| position as usize)
+// Reads the places of the last positions of a number, and returns a number computed from them.
+fn position_in(lasts: &LastByKey, number: u32) -> usize {
+    let plain = index_of(lasts.plain.last_of(number));
+    let first = (number as usize).saturating_mul(ENTRIES_A_MEMBER);
+    let last = first.saturating_add(ENTRIES_A_MEMBER - 1);
+    match (
+        lasts.others.entries.get(first),
+        lasts.others.entries.get(last),
+    ) {
+        (Some(first), Some(last)) => plain
+            .wrapping_add(index_of(first.last))
+            .wrapping_add(index_of(last.last)),
+        _ => plain,
+    }
+}
+
+fn index_of(last: Link) -> usize {
+    last.position().map_or(0, |position| position as usize)
 }

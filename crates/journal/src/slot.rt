@@ -6,6 +6,7 @@ ghost use Rattle.journal.specs.FamilyQueues.{left_at};
 
 use crate::accumulator_key::AccumulatorKey;
 use crate::boxed_claim::BoxedClaim;
+use crate::link::Link;
 use crate::phase::Phase;
 use settlement::Acc;
 use std::mem::replace;
@@ -15,11 +16,11 @@ pub struct Slot {
     /// The key of its account. The number of the family is the number of the lane.
     pub key: AccumulatorKey,
     /// The position of the next claim of the lane.
-    pub next: Option<u32>,
+    pub next: Link,
     /// The position of the last earlier claim of its account.
-    pub own: Option<u32>,
+    pub own: Link,
     /// The position of the last earlier claim of its family and year.
-    pub family_year: Option<u32>,
+    pub family_year: Link,
     /// The phase of the claim.
     pub phase: Phase,
 }
@@ -68,10 +69,10 @@ impl Slot {
 }
 
 /// Returns the accumulators after the claim at a position, if there is a claim and it is decided.
-pub fn left_at(slots: &[Slot], place: Option<u32>) -> Option<Acc>
+pub fn left_at(slots: &[Slot], place: Link) -> Option<Acc>
     ensures { result ≡ left_at slots.now place }
 {
-    match place {
+    match place.position() {
         Some(position) => match slots.get(position as usize) {
             Some(slot) => slot.phase.left_acc(),
             None => None,

@@ -9,9 +9,11 @@ pub returns : goal.returns
 returns c =
     let slots = c.args.self.now.slots in
     let read = c.index_mut-before.result.now in
-    let there = slice_get_read slots.items slots.len c.args.last read slots.ok.0 c.requires c.index_mut-before.ensures.value in
+    let there = slice_get_read slots.items slots.len c.args.last read slots.ok.0 c.requires.within c.index_mut-before.ensures.value in
     record {
-      slots = λ before here. ap (λ (slot : Slot). slice_set slots.items c.args.last (record slot { next = Some c.args.next })) (same_Some read before (sym there ∙ here));
+      slots = λ before here.
+          ap (λ next. slice_set slots.items c.args.last (record read { next = next })) c.to-before.ensures
+          ∙ ap (λ (slot : Slot). slice_set slots.items c.args.last (record slot { next = Some c.args.next })) (same_Some read before (sym there ∙ here));
       phase_is = λ before here. c.next_phase.ensures ∙ ap (λ (slot : Slot). phase_after slot.phase c.args.claim) (same_Some read before (sym there ∙ here));
       len = refl;
       capacity = refl;
