@@ -2,9 +2,9 @@
 use Rattle.std.proofs.Common.{inl, inr, ◌≡◌, ◌≢◌, ◌<◌, ◌≤◌, ◌+◌, ◌==◌, ◌&&◌, ◌+ℤ◌, ℕ, ℤ, pos, suc, zero, Bool, true, false, List, [], ◌∷◌, ◌++◌, length, map, flat_map, get_or, set, Option, Some, None, IsSome, is_some, Result, Ok, Err, OnOk, String, string_bytes, cond, refl, sym, ap, subst, append_assoc, ◌∙◌, arith}
 use Rattle.std.specs.List.{All}
 use Rattle.std.specs.Map.{lookup}
-use Rattle.std.specs.Option.{option_and_then, unwrap_or}
-use Rattle.std.specs.BTreeMap.{BTreeMap, IsOrdered, get_by_text}
-use Rattle.std.specs.String.{string_cmp}
+use Rattle.std.specs.Option.{unwrap_or}
+use Rattle.std.specs.HashMap.{HashMap, IsUnique, get_by_text}
+use Rattle.std.specs.String.{string_eq}
 use Rattle.std.specs.Str.{bytes_eq}
 use Rattle.std.proofs.lemmas.Bool.{cases_Bool, cases_eq, cases_lt, false≢true}
 use Rattle.std.proofs.lemmas.Bool.Decides.{nat_tests}
@@ -17,9 +17,9 @@ use Rattle.settlement.specs.declared.acc.Acc.{Acc}
 use Rattle.settlement.specs.declared.account.Balance.{Balance}
 use Rattle.settlement.specs.Claim.{nothing_yet}
 use Rattle.settlement.specs.Opening.{begun_beside, joins, no_balance, opening}
-use Rattle.intake_csv.specs.FamilyYears.{AreOnceBy, HasJoined, Members, balance_in, begins, met_of, oop_of, refused_after}
+use Rattle.intake_csv.specs.FamilyYears.{AreOnceBy, HasJoined, Members, balance_in, begins, met_of, oop_of}
 use Rattle.intake_csv.specs.Balances.{AreOnce, AreOnceIn, Book, Entry, Holder, JoinsIn, accounts_from, accounts_in, accounts_of, book_of, books_of, found_in, holder_of, is_holder}
-use Rattle.intake_csv.proofs.FamilyYears.{bytes-turned, looked, once-sorted}
+use Rattle.intake_csv.proofs.FamilyYears.{bytes-turned, looked-name, once-distinct}
 
 -- the members of a family in a year, or none if the family has no balances
 abbrev pub members_at : List Book → Holder → Members
@@ -151,11 +151,6 @@ pub begun_none : (books : List Book) (family member : List ℕ) (year : ℕ) →
 begun_none books family member year once is =
     ap (λ (o : Option Members). begins_among (unwrap_or o []) member) (sym is) ∙ sym (opened-books books (record { family = family; member = member; year = year }) once)
 
--- the refusal of a member of a family that has balances
-pub refused_some : (found : Option Members) (members : Members) (member : List ℕ) (balance : Balance) → found ≡ Some members
-    → refused_after members (balance_in members member) balance ≡ option_and_then (λ ms. refused_after ms (balance_in ms member) balance) found
-refused_some found members member balance is = ap (option_and_then (λ ms. refused_after ms (balance_in ms member) balance)) (sym is)
-
 -- an appended empty book changes no lookup
 room-same : (books : List Book) (k : ℕ) → get_or (books ++ [] ∷ []) k [] ≡ get_or books k []
 room-same [] zero = refl
@@ -164,38 +159,38 @@ room-same (b ∷ bs) zero = refl
 room-same (b ∷ bs) (suc k) = room-same bs k
 
 -- an empty map has an empty book
-empty-book : {Y : Type 0} (family_years : BTreeMap (String Y) Members) → family_years.entries ≡ [] → book_of family_years ≡ []
+empty-book : {Y S : Type 0} (family_years : HashMap (String Y) Members S) → family_years.entries ≡ [] → book_of family_years ≡ []
 empty-book family_years empty = ap (λ es. map (λ e. (string_bytes e.0, e.1)) es) empty
 
-more-books : {Y : Type 0} (years : List (BTreeMap (String Y) Members)) (family_years : BTreeMap (String Y) Members) → family_years.entries ≡ []
+more-books : {Y S : Type 0} (years : List (HashMap (String Y) Members S)) (family_years : HashMap (String Y) Members S) → family_years.entries ≡ []
     → books_of (years ++ family_years ∷ []) ≡ books_of years ++ [] ∷ []
 more-books years family_years empty = map-append book_of years (family_years ∷ []) ∙ ap (λ b. books_of years ++ b ∷ []) (empty-book family_years empty)
 
 -- the lookups in books, and the families' distinctness, after an empty map is appended
-pub room_found : {Y : Type 0} (years : List (BTreeMap (String Y) Members)) (family_years : BTreeMap (String Y) Members) (q : Holder) → family_years.entries ≡ []
+pub room_found : {Y S : Type 0} (years : List (HashMap (String Y) Members S)) (family_years : HashMap (String Y) Members S) (q : Holder) → family_years.entries ≡ []
     → found_in (books_of (years ++ family_years ∷ [])) q ≡ found_in (books_of years) q
 room_found years family_years q empty =
     ap (λ bs. lookup (bytes_eq q.0) (get_or bs q.1 [])) (more-books years family_years empty) ∙ ap (lookup (bytes_eq q.0)) (room-same (books_of years) q.1)
 
-pub room_kept : {Y : Type 0} (years : List (BTreeMap (String Y) Members)) (family_years : BTreeMap (String Y) Members) → family_years.entries ≡ []
+pub room_kept : {Y S : Type 0} (years : List (HashMap (String Y) Members S)) (family_years : HashMap (String Y) Members S) → family_years.entries ≡ []
     → AreOnce (books_of years) → AreOnce (books_of (years ++ family_years ∷ []))
 room_kept years family_years empty once = subst AreOnce (sym (more-books years family_years empty)) (All-push AreOnceIn (books_of years) [] once (record { families = tt; members = All-nil (λ family_year. AreOnceBy bytes_eq family_year.1) }))
 
 -- the book of a year, from its map
-pub book-at : {Y : Type 0} (years : List (BTreeMap (String Y) Members)) (y : ℕ) (d : BTreeMap (String Y) Members) → y < length years
+pub book-at : {Y S : Type 0} (years : List (HashMap (String Y) Members S)) (y : ℕ) (d : HashMap (String Y) Members S) → y < length years
     → get_or (books_of years) y [] ≡ book_of (get_or years y d)
 book-at [] y d within = absurd (omega (arith, within))
 book-at (m ∷ ms) zero d within = refl
 book-at (m ∷ ms) (suc y) d within = book-at ms y d (omega (arith, within))
 
 -- the families and members stay distinct after the map of a year is replaced
-pub put_once : {Y : Type 0} (years : List (BTreeMap (String Y) Members)) (y : ℕ) (d family_years : BTreeMap (String Y) Members) → y < length years → IsOrdered string_cmp family_years
+pub put_once : {Y S : Type 0} (years : List (HashMap (String Y) Members S)) (y : ℕ) (d family_years : HashMap (String Y) Members S) → y < length years → IsUnique string_eq family_years
     → (All (λ family_year. AreOnceBy bytes_eq family_year.1) (book_of (get_or years y d)) → All (λ family_year. AreOnceBy bytes_eq family_year.1) (book_of family_years))
     → AreOnce (books_of years) → AreOnce (books_of (set years y family_years))
-put_once years y d family_years within ordered kept once =
+put_once years y d family_years within unique kept once =
     let size : length (books_of years) ≡ length years = length-map years book_of in
     let before : AreOnceIn (book_of (get_or years y d)) = rw (← book-at years y d within) (All-get_or AreOnceIn (books_of years) y [] (omega (arith, within, size)) once) in
-    let after : AreOnceIn (book_of family_years) = record { families = once-sorted family_years.entries ordered; members = kept before.members } in
+    let after : AreOnceIn (book_of family_years) = record { families = once-distinct family_years.entries unique; members = kept before.members } in
     subst AreOnce (sym (map-set book_of years y family_years)) (All-set AreOnceIn (books_of years) y (book_of family_years) after once)
 
 -- a year after the last book has no book
@@ -205,24 +200,24 @@ book-none (b ∷ bs) zero beyond = absurd (beyond (omega arith))
 book-none (b ∷ bs) (suc y) beyond = book-none bs y (λ within. beyond (omega (arith, within)))
 
 -- a lookup in a year that has a map, and in a year after the last one
-pub found_within : {Y : Type 0} (years : List (BTreeMap (String Y) Members)) (y : ℕ) (d : BTreeMap (String Y) Members) (family : List ℕ) → y < length years
+pub found_within : {Y S : Type 0} (years : List (HashMap (String Y) Members S)) (y : ℕ) (d : HashMap (String Y) Members S) (family : List ℕ) → y < length years
     → get_by_text (get_or years y d) family ≡ found_in (books_of years) (family, y)
-found_within years y d family within = looked (get_or years y d).entries family ∙ sym (ap (lookup (bytes_eq family)) (book-at years y d within))
+found_within years y d family within = looked-name (get_or years y d).entries family ∙ sym (ap (lookup (bytes_eq family)) (book-at years y d within))
 
-pub found_beyond : {Y : Type 0} (years : List (BTreeMap (String Y) Members)) (y : ℕ) (family : List ℕ) → length years ≤ y → None ≡ found_in (books_of years) (family, y)
+pub found_beyond : {Y S : Type 0} (years : List (HashMap (String Y) Members S)) (y : ℕ) (family : List ℕ) → length years ≤ y → None ≡ found_in (books_of years) (family, y)
 found_beyond years y family beyond =
     let size : length (books_of years) ≡ length years = length-map years book_of in
     sym (ap (lookup (bytes_eq family)) (book-none (books_of years) y (λ within. omega (arith, within, beyond, size))))
 
 -- a year in which a family is found has a map
-pub there-within : {Y : Type 0} (years : List (BTreeMap (String Y) Members)) (y : ℕ) (family : List ℕ) → IsSome (found_in (books_of years) (family, y)) → y < length years
+pub there-within : {Y S : Type 0} (years : List (HashMap (String Y) Members S)) (y : ℕ) (family : List ℕ) → IsSome (found_in (books_of years) (family, y)) → y < length years
 there-within years y family there = elim (cases_lt y (length years)) [
   | inl within ↦ within
   | inr beyond ↦ absurd (false≢true (ap is_some (found_beyond years y family beyond) ∙ there))
 ]
 
 -- a lookup in the map of a year is a lookup in the books
-pub found-there : {Y : Type 0} (years : List (BTreeMap (String Y) Members)) (y place : ℕ) (family_years : BTreeMap (String Y) Members) (family : List ℕ) (found : Option Members)
+pub found-there : {Y S : Type 0} (years : List (HashMap (String Y) Members S)) (y place : ℕ) (family_years : HashMap (String Y) Members S) (family : List ℕ) (found : Option Members)
     → place ≡ y → family_years ≡ get_or years place family_years → IsSome (found_in (books_of years) (family, y)) → found ≡ get_by_text family_years family
     → found_in (books_of years) (family, y) ≡ found
 found-there years y place family_years family found same located there is =
@@ -247,18 +242,18 @@ put-book books y book family members q within more = elim (cases_eq q.1 y) [
 ]
 
 -- the lookups after the members of a family in a year are replaced
-pub put_found : {Y : Type 0} (years : List (BTreeMap (String Y) Members)) (y : ℕ) (d family_years : BTreeMap (String Y) Members) (family : List ℕ) (members : Members) (q : Holder)
+pub put_found : {Y S : Type 0} (years : List (HashMap (String Y) Members S)) (y : ℕ) (d family_years : HashMap (String Y) Members S) (family : List ℕ) (members : Members) (q : Holder)
     → y < length years → ((p : List ℕ) → get_by_text family_years p ≡ cond (bytes_eq family p) (Some members) (get_by_text (get_or years y d) p))
     → found_in (books_of (set years y family_years)) q ≡ cond (is_holder (family, y) q) (Some members) (found_in (books_of years) q)
 put_found years y d family_years family members q within updated =
     let size : length (books_of years) ≡ length years = length-map years book_of in
     let at = book-at years y d within in
     let more : (p : List ℕ) → lookup (bytes_eq p) (book_of family_years) ≡ cond (bytes_eq family p) (Some members) (lookup (bytes_eq p) (get_or (books_of years) y [])) =
-    λ p. sym (looked family_years.entries p) ∙ updated p ∙ ap (cond (bytes_eq family p) (Some members)) (looked (get_or years y d).entries p ∙ ap (lookup (bytes_eq p)) (sym at)) in
+    λ p. sym (looked-name family_years.entries p) ∙ updated p ∙ ap (cond (bytes_eq family p) (Some members)) (looked-name (get_or years y d).entries p ∙ ap (lookup (bytes_eq p)) (sym at)) in
     ap (λ bs. found_in bs q) (map-set book_of years y family_years) ∙ put-book (books_of years) y (book_of family_years) family members q (omega (arith, within, size)) more
 
 -- the books after one more member is added to a family in a year
-pub joins_in : {Y U E : Type 0} (years : List (BTreeMap (String Y) Members)) (y : ℕ) (d family_years : BTreeMap (String Y) Members) (family member : List ℕ) (balance : Balance) (before after : Members)
+pub joins_in : {Y S U E : Type 0} (years : List (HashMap (String Y) Members S)) (y : ℕ) (d family_years : HashMap (String Y) Members S) (family member : List ℕ) (balance : Balance) (before after : Members)
     → (joined : Result U E) → y < length years → found_in (books_of years) (family, y) ≡ Some before
     → ((p : List ℕ) → get_by_text family_years p ≡ cond (bytes_eq family p) (Some after) (get_by_text (get_or years y d) p))
     → OnOk joined (HasJoined member balance before after) → OnOk joined (JoinsIn (family, y) member balance (books_of years) (books_of (set years y family_years)))
@@ -280,5 +275,5 @@ joins_in years y d family_years family member balance before after (Ok u) within
 joins_in years y d family_years family member balance before after (Err e) within is updated has = tt
 
 -- an empty list of books has no repeated family
-pub none_once : {Y : Type 0} (years : List (BTreeMap (String Y) Members)) → years ≡ [] → AreOnce (books_of years)
-none_once years empty = subst (λ (ys : List (BTreeMap (String _) Members)). AreOnce (books_of ys)) (sym empty) (All-nil AreOnceIn)
+pub none_once : {Y S : Type 0} (years : List (HashMap (String Y) Members S)) → years ≡ [] → AreOnce (books_of years)
+none_once years empty = subst (λ (ys : List (HashMap (String _) Members _)). AreOnce (books_of ys)) (sym empty) (All-nil AreOnceIn)

@@ -1,7 +1,7 @@
 -- The entries of a file of balances, with one more.
-use Rattle.std.proofs.Common.{inl, inr, ◌≡◌, ◌≢◌, ◌<◌, ◌+◌, ◌-◌, ◌==◌, ◌&&◌, ◌+ℤ◌, ℕ, ℤ, Bool, true, false, subst, List, [], ◌∷◌, ◌++◌, length, take, drop, Option, Some, None, IsSome, Bor, Result, Ok, Err, OnOk, cond, if◌then◌else◌, refl, sym, ap, ◌∙◌, arith}
+use Rattle.std.proofs.Common.{inl, inr, ◌≡◌, ◌≢◌, ◌<◌, ◌+◌, ◌-◌, ◌==◌, ◌&&◌, ◌+ℤ◌, ℕ, ℤ, Bool, true, false, subst, List, [], ◌∷◌, ◌++◌, length, take, drop, Option, Some, None, IsSome, Result, Ok, Err, OnOk, cond, if◌then◌else◌, refl, sym, ap, ◌∙◌, arith}
 use Rattle.std.specs.List.{All, AllZip}
-use Rattle.std.specs.Option.{is_some, option_and_then, option_copied, unwrap_or}
+use Rattle.std.specs.Option.{is_some, option_and_then, unwrap_or}
 use Rattle.std.specs.Str.{bytes_eq}
 use Rattle.std.proofs.lemmas.Bool.{cases_Bool, false≢true}
 use Rattle.std.proofs.lemmas.Bool.Decides.{nat_tests}
@@ -246,11 +246,6 @@ some-there (Some x) there = (x, refl)
 pub none-there : {A : Type 0} (o : Option A) → is_some o ≡ false → o ≡ None
 none-there None there = refl
 none-there (Some x) there = absurd (false≢true (sym there))
-
--- the value of an optional reference is present if the reference is
-pub copied-there : (found : Option (Bor Members)) (is : Option Members) (b : Bool) → option_copied found ≡ is → is_some found ≡ b → is_some is ≡ b
-copied-there None is b copied there = ap is_some (sym copied) ∙ there
-copied-there (Some members) is b copied there = ap is_some (sym copied) ∙ there
 
 -- the entries after one is added to a family and year with earlier balances
 pub put-joined : {U E : Type 0} (account : Account) (name : List ℕ) (balance : Balance) (old new : List Book) (put : Result U E) → name ≡ account.member → AreOnce new

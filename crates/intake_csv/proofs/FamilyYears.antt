@@ -1,19 +1,21 @@
 -- Families and years: lookups in the map of the members, and one more member.
-use Rattle.std.proofs.Common.{inl, inr, ◌≡◌, ◌+ℤ◌, ℕ, ℤ, Bool, true, false, List, [], ◌∷◌, map, Option, Some, None, String, string_bytes, nat_cmp, cond, refl, sym, ap, ◌∙◌, arith}
-use Rattle.std.specs.List.{All, AllByRecursion}
+use Rattle.std.proofs.Common.{inl, inr, ◌≡◌, ◌+ℤ◌, ℕ, ℤ, Bool, true, false, List, [], ◌∷◌, map, Option, Some, None, String, string_bytes, nat_cmp, cond, refl, sym, ap, subst, ◌∙◌, arith}
+use Rattle.std.specs.List.{All, AllByRecursion, IsDistinct}
 use Rattle.std.specs.List.Sorted.{IsStrictlySortedBy}
 use Rattle.std.specs.Map.{keys_of, lookup, set_value}
 use Rattle.std.specs.BTreeMap.{BTreeMap, IsOrdered, UpdatesBy, get_by_text, insert_entry, is_at}
+use Rattle.std.specs.HashMap.{HashMap, PutsEntry}
 use Rattle.std.specs.Ordering.{is_eq, match_ordering}
-use Rattle.std.specs.String.{string_cmp}
+use Rattle.std.specs.String.{string_cmp, string_eq}
 use Rattle.std.specs.declared.cmp.Ordering.{Ordering}
 use Rattle.std.specs.declared.cmp.Ordering.TheVariants.{Less, Equal, Greater}
 use Rattle.std.specs.Cmp.Lexicographic.{slice_cmp}
 use Rattle.std.specs.Str.{bytes_eq}
 use Rattle.std.proofs.lemmas.Bool.{cases_Bool, false≢true}
 use Rattle.std.proofs.lemmas.Int.{ints}
-use Rattle.std.proofs.lemmas.List.Elements.{All-cons, All-head, All-nil, All-tail}
+use Rattle.std.proofs.lemmas.List.Elements.{All-cons, All-head, All-tail}
 use Rattle.std.proofs.lemmas.Map.Keys.{sorted_head, sorted_tail}
+use Rattle.std.proofs.lemmas.Map.Views.{All-map-IsPermutation}
 use Rattle.std.proofs.lemmas.Map.Text.{btree_map_updates_text, is_eq-slice_cmp}
 use Rattle.std.proofs.lemmas.Slice.Eq.{bytes_eq-Decides}
 use Rattle.settlement.specs.declared.account.Balance.{Balance}
@@ -40,6 +42,27 @@ looked (e ∷ es) m =
       | inr other ↦ rw (same, other) (looked es m)
     ]
 
+-- the same for a map that finds names by their hashes
+pub looked-name : {Y V : Type 0} (es : List (String Y × V)) (m : List ℕ) → lookup (λ k. bytes_eq m (string_bytes k)) es ≡ lookup (bytes_eq m) (map (λ e. (string_bytes e.0, e.1)) es)
+looked-name [] m = refl
+looked-name (e ∷ es) m = elim (cases_Bool (bytes_eq m (string_bytes e.0))) [
+  | inl here ↦ rw here refl
+  | inr other ↦ rw other (looked-name es m)
+]
+
+-- the keys of such a map occur once, since they are distinct
+unfound-among : {Y V : Type 0} (key : String Y) (es : List (String Y × V)) → AllByRecursion (λ y. string_eq key y ≡ false) (keys_of es)
+    → lookup (bytes_eq (string_bytes key)) (map (λ e. (string_bytes e.0, e.1)) es) ≡ None
+unfound-among key [] h = refl
+unfound-among key (e ∷ es) h =
+    let other : bytes_eq (string_bytes key) (string_bytes e.0) ≡ false = h.0 in
+    rw other (unfound-among key es h.1)
+
+pub once-distinct : {Y V : Type 0} (es : List (String Y × V)) → IsDistinct string_eq (keys_of es) → AreOnceBy bytes_eq (map (λ e. (string_bytes e.0, e.1)) es)
+unfolding IsDistinct
+once-distinct [] h = tt
+once-distinct (e ∷ es) h = (unfound-among e.0 es h.0, once-distinct es h.1)
+
 -- the keys of a map occur once, since they increase
 unfound-below : {Y V : Type 0} (key : String Y) (es : List (String Y × V)) → AllByRecursion (λ y. string_cmp key y ≡ Less) (keys_of es)
     → lookup (bytes_eq (string_bytes key)) (map (λ e. (string_bytes e.0, e.1)) es) ≡ None
@@ -56,24 +79,7 @@ once-sorted (e ∷ es) h = (unfound-below e.0 es (sorted_head string_cmp e.0 (ke
 abbrev Has : {V : Type 0} → (V → Type 0) → List ℕ × V → Type 0
 Has P named = P named.1
 
--- a property of all values of a map still holds after a value with that property is inserted
-all-placed : {Y V : Type 0} (P : V → Type 0) (key : String Y) (v : V) (e : String Y × V) (es rest : List (String Y × V)) (order : Ordering) → P v → P e.1
-    → All (Has P) (map (λ e. (string_bytes e.0, e.1)) es) → All (Has P) (map (λ e. (string_bytes e.0, e.1)) rest)
-    → All (Has P) (map (λ e. (string_bytes e.0, e.1)) (match_ordering order ((key, v) ∷ e ∷ es) ((e.0, v) ∷ es) (e ∷ rest)))
-all-placed P key v e es rest Less new first others more =
-    let following = map (λ e. (string_bytes e.0, e.1)) es in
-    All-cons (Has P) (string_bytes key, v) ((string_bytes e.0, e.1) ∷ following) new (All-cons (Has P) (string_bytes e.0, e.1) following first others)
-all-placed P key v e es rest Equal new first others more = All-cons (Has P) (string_bytes e.0, v) (map (λ e. (string_bytes e.0, e.1)) es) new others
-all-placed P key v e es rest Greater new first others more = All-cons (Has P) (string_bytes e.0, e.1) (map (λ e. (string_bytes e.0, e.1)) rest) first more
-
-pub all-inserted : {Y V : Type 0} (P : V → Type 0) (key : String Y) (v : V) (es : List (String Y × V)) → P v → All (Has P) (map (λ e. (string_bytes e.0, e.1)) es)
-    → All (Has P) (map (λ e. (string_bytes e.0, e.1)) (insert_entry string_cmp es key v))
-all-inserted P key v [] new all = All-cons (Has P) (string_bytes key, v) [] new (All-nil (Has P))
-all-inserted P key v (e ∷ es) new all =
-    let following = map (λ e. (string_bytes e.0, e.1)) es in
-    let others = All-tail (Has P) (string_bytes e.0, e.1) following all in
-    all-placed P key v e es (insert_entry string_cmp es key v) (string_cmp key e.0) new (All-head (Has P) (string_bytes e.0, e.1) following all) others (all-inserted P key v es new others)
-
+-- a property of all values of a map still holds after a value with that property is written
 set-placed : {Y V : Type 0} (P : V → Type 0) (v : V) (e : String Y × V) (es rest : List (String Y × V)) (here : Bool) → P v → P e.1
     → All (Has P) (map (λ e. (string_bytes e.0, e.1)) es) → All (Has P) (map (λ e. (string_bytes e.0, e.1)) rest)
     → All (Has P) (map (λ e. (string_bytes e.0, e.1)) (cond here ((e.0, v) ∷ es) (e ∷ rest)))
@@ -87,6 +93,13 @@ all-set P test v (e ∷ es) new all =
     let following = map (λ e. (string_bytes e.0, e.1)) es in
     let others = All-tail (Has P) (string_bytes e.0, e.1) following all in
     set-placed P v e es (set_value test es v) (test e.0) new (All-head (Has P) (string_bytes e.0, e.1) following all) others (all-set P test v es new others)
+
+pub all-put : {Y V S : Type 0} (P : V → Type 0) (key : String Y) (v : V) (old new : HashMap (String Y) V S) (before : Option V) → PutsEntry string_eq old new key v before → P v
+    → All (Has P) (map (λ e. (string_bytes e.0, e.1)) old.entries) → All (Has P) (map (λ e. (string_bytes e.0, e.1)) new.entries)
+all-put P key v old new None puts one all =
+    let others = map (λ e. (string_bytes e.0, e.1)) old.entries in
+    All-map-IsPermutation (λ e. (string_bytes e.0, e.1)) (Has P) ((key, v) ∷ old.entries) new.entries puts (All-cons (Has P) (string_bytes key, v) others one all)
+all-put P key v old new (Some w) puts one all = subst (λ es. All (Has P) (map (λ e. (string_bytes e.0, e.1)) es)) (sym puts) (all-set P (string_eq key) v old.entries one all)
 
 -- the balance of the first member, and of one in the map of the others
 pub found_first : {Y : Type 0} (first : List ℕ) (own : Balance) (others : BTreeMap (String Y) Balance) (member : List ℕ) → bytes_eq first member ≡ true

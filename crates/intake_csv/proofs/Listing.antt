@@ -1,9 +1,9 @@
 -- The entries of balances, which are listed one after another.
-use Rattle.std.proofs.Common.{◌≡◌, ◌<◌, ◌≤◌, ◌+◌, ℕ, suc, List, [], ◌∷◌, ◌++◌, length, map, flat_map, get_or, drop, String, string_bytes, refl, sym, ap, ◌∙◌, append_assoc, append-nil, drop-cons, drop_of_length-le, arith}
+use Rattle.std.proofs.Common.{◌≡◌, ◌<◌, ◌≤◌, ◌+◌, ℕ, suc, List, [], ◌∷◌, ◌++◌, length, map, flat_map, get_or, drop, String, string_bytes, sym, ap, ◌∙◌, append_assoc, append-nil, drop-cons, drop_of_length-le, arith}
 use Rattle.std.proofs.lemmas.List.{map-append}
 use Rattle.settlement.specs.declared.account.Balance.{Balance}
 use Rattle.intake_csv.specs.FamilyYears.{Members}
-use Rattle.intake_csv.specs.Balances.{Book, Entry, accounts_from, accounts_in, accounts_of, opening_of}
+use Rattle.intake_csv.specs.Balances.{Book, Entry, accounts_from, accounts_in, opening_of}
 use Rattle.intake_csv.specs.declared.entry.OpeningEntry.{OpeningEntry}
 
 -- an entry of a map, by the bytes of its key

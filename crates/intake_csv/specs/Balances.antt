@@ -5,7 +5,7 @@ use Rattle.std.specs.List.{All, AllPairs, AllZip, Any, slice_get}
 use Rattle.std.specs.Map.{lookup}
 use Rattle.std.specs.Option.{option_and_then}
 use Rattle.std.specs.Str.{bytes_eq}
-use Rattle.std.specs.BTreeMap.{BTreeMap}
+use Rattle.std.specs.HashMap.{HashMap}
 use Rattle.std.specs.declared.string.String.{String}
 use Rattle.feel_tests.specs.Calendar.{year_text}
 use Rattle.feel_tests.specs.declared.value.Value.{Value}
@@ -129,12 +129,12 @@ pub record AreEntries (version : ℕ) (layout : Layout) (records : List Fields) 
   pub distinct : AllPairs (λ a b. a.0 ≢ b.0) entries
   pub in_range : (account : Account) → AreInRange (opening entries account)
 
--- the book of a map, in the order of the map's keys
-abbrev pub book_of : {Y : Type 0} → BTreeMap (String Y) Members → Book
+-- the book of a map, in the order of the map's entries
+abbrev pub book_of : {Y S : Type 0} → HashMap (String Y) Members S → Book
 book_of family_years = map (λ e. (string_bytes e.0, e.1)) family_years.entries
 
 -- the books of a list of maps
-abbrev pub books_of : {Y : Type 0} → List (BTreeMap (String Y) Members) → List Book
+abbrev pub books_of : {Y S : Type 0} → List (HashMap (String Y) Members S) → List Book
 books_of years = map book_of years
 
 -- the text is a file of entries, and the balances have the opening accumulators of these entries

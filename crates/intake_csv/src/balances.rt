@@ -1,9 +1,9 @@
 //! The opening balances of accounts, before their first claim of a run.
-ghost use Rattle.std.specs.Prelude.{◌≡◌, ◌≤◌, ◌<◌, ◌+◌, ◌++◌, ◌∷◌, [], List, flat_map, length, cond, map, string_bytes, IfOk, IfErr, OnOk, IsSome, None, Some};
+ghost use Rattle.std.specs.Prelude.{◌≡◌, ◌≤◌, ◌<◌, ◌+◌, ◌++◌, ◌∷◌, [], List, flat_map, length, cond, map, string_bytes, IfOk, IfErr, OnOk, IsSome, is_some, None, Some};
 ghost use Rattle.std.specs.Option.{option_and_then, option_copied};
 ghost use Rattle.std.specs.Str.{bytes_eq};
 ghost use Rattle.settlement.specs.Opening.{opening};
-ghost use Rattle.intake_csv.specs.Balances.{AreBalanceColumns, AreBalances, AreOnce, Entry as AnyEntry, Holder as AnyHolder, HasBalanceFault, HoldsEntries, IsRecordFault, IsReportedAt, JoinsIn, TakesEntry, accounts_in, accounts_of, book_of, books_of, entry_of, found_in, is_holder, opening_of, refusal_cause, refusal_of, refusal_place};
+ghost use Rattle.intake_csv.specs.Balances.{AreBalanceColumns, AreBalances, AreOnce, Entry as AnyEntry, Holder as AnyHolder, HasBalanceFault, HoldsEntries, IsRecordFault, IsReportedAt, JoinsIn, TakesEntry, accounts_in, accounts_of, book_of, books_of, entry_of, found_in, holder_of, is_holder, opening_of, refusal_cause, refusal_of, refusal_place};
 ghost use Rattle.intake_csv.specs.Columns.{balance_columns, year_columns};
 ghost use Rattle.intake_csv.specs.FamilyYears.{AreOnceBy, balance_in, refused_after};
 ghost use Rattle.intake_csv.specs.HeaderedFile.{IsHeaderedFileOf, IsWithin};
@@ -14,13 +14,18 @@ use crate::csv_record::CsvRecord;
 use crate::entry::{Entry, OpeningEntry, member_place, met_place, read_entry};
 use crate::family_year::{FamilyYear, Refusal};
 use crate::headered_file::{HeaderedFile, read_headered_file};
+use crate::name_hashing::NameHashing;
 use faults::names::{MEMBER, MET, OOP, PAID, YEAR};
 use faults::{BalanceFault, FileFault, RowCause, RowFault};
 use settlement::{Acc, Balance};
 use std::alloc::{AllocError, Global};
-use std::collections::BTreeMap;
+use std::collections::HashMap;
 use std::marker::Model;
 use tables::{Plan, Sequence, has_families, has_years};
+
+// The families of a year. They are found by a hash: a file has many families, often in no order, and
+// a tree of that size would mostly wait for memory.
+type Families = HashMap<String, FamilyYear, NameHashing>;
 
 /// The opening balances of a file.
 ///
@@ -30,7 +35,8 @@ use tables::{Plan, Sequence, has_families, has_years};
 /// is its own family.
 #[derive(Drop)]
 pub struct Balances {
-    years: Vec<BTreeMap<String, FamilyYear>>,
+    years: Vec<Families>,
+    hashing: NameHashing,
 }
 
 impl Model for Balances {
@@ -71,6 +77,7 @@ fn read_by(alloc: Global, version: u8, text: &[u8]) -> Result<Balances, BalanceF
     } = headered_file;
     let mut balances = Balances {
         years: Vec::new(alloc),
+        hashing: NameHashing::of_text(text),
     };
     let mut record = CsvRecord::new(alloc);
     let mut number: usize = 0;
@@ -116,7 +123,8 @@ impl Balances {
         }
     }
 
-    /// Returns the entry of each account that has a balance, year by year and family by family.
+    /// Returns the entry of each account that has a balance, year by year and family by family. The
+    /// order of the families of a year is not specified.
     pub fn entries(&self, alloc: Global) -> Result<Vec<OpeningEntry>, AllocError>
         ensures listed { IfOk result (λ entries. map opening_of entries.items
             ≡ accounts_of self.now) }
@@ -167,30 +175,41 @@ impl Balances {
             Ok(Err(fault)) => return Ok(Err(fault)),
             Err(AllocError) => return Err(AllocError),
         };
-        if let Some(refusal) = self.refusal(&entry) {
-            return Ok(Err(fault_of(layout, version, refusal)));
-        }
-        self.put(alloc, &entry)?;
+        let has_family = match self.judge(&entry) {
+            Ok(has_family) => has_family,
+            Err(refusal) => return Ok(Err(fault_of(layout, version, refusal))),
+        };
+        self.put(alloc, &entry, has_family)?;
         Ok(Ok(()))
     }
 
-    fn refusal(&self, entry: &Entry) -> Option<Refusal>
-        ensures { result ≡ refusal_of self.now (entry_of entry.now) }
+    // Returns whether the entry's family has balances in its year, or why the entry is refused.
+    fn judge(&self, entry: &Entry) -> Result<bool, Refusal>
+        ensures known { IfOk result (λ has_family.
+            is_some (found_in self.now (holder_of (entry_of entry.now).0)) ≡ has_family) }
+        ensures free { OnOk result (refusal_of self.now (entry_of entry.now) ≡ None) }
+        ensures refused { IfErr result (λ refusal.
+            refusal_of self.now (entry_of entry.now) ≡ Some refusal) }
     {
         match self.find(entry.family, entry.year) {
-            Some(family_year) => family_year.refusal(entry.member, entry.balance),
-            None => None,
+            Some(family_year) => match family_year.refusal(entry.member, entry.balance) {
+                Some(refusal) => Err(refusal),
+                None => Ok(true),
+            },
+            None => Ok(false),
         }
     }
 
-    // Adds an entry that is not refused.
-    fn put(&mut self, alloc: Global, entry: &Entry) -> Result<(), AllocError>
-        requires { refusal_of self.old (entry_of entry.now) ≡ None }
+    // Adds an entry that is not refused, to its family if that has balances in its year.
+    fn put(&mut self, alloc: Global, entry: &Entry, has_family: bool) -> Result<(), AllocError>
+        requires free { refusal_of self.old (entry_of entry.now) ≡ None }
+        requires known { is_some (found_in self.old (holder_of (entry_of entry.now).0))
+            ≡ has_family }
         ensures { OnOk result ((front : List AnyEntry) → HoldsEntries front self.old
             → HoldsEntries (front ++ entry_of entry.now ∷ []) self.new) }
     {
         let name = String::from_str(alloc, entry.member)?;
-        if self.find(entry.family, entry.year).is_some() {
+        if has_family {
             return join(
                 &mut self.years,
                 entry.family,
@@ -201,7 +220,7 @@ impl Balances {
         }
         let family = String::from_str(alloc, entry.family)?;
         let family_year = FamilyYear::new(alloc, name, entry.balance);
-        make_room(alloc, &mut self.years, entry.year)?;
+        make_room(alloc, &mut self.years, self.hashing, entry.year)?;
         add(&mut self.years, family, entry.year, family_year)
     }
 }
@@ -210,7 +229,7 @@ impl Balances {
 fn list_year(
     alloc: Global,
     entries: &mut Vec<OpeningEntry>,
-    families: &BTreeMap<String, FamilyYear>,
+    families: &Families,
     year: u16,
 ) -> Result<(), AllocError>
     ensures { OnOk result (map opening_of entries.new.items
@@ -259,7 +278,8 @@ fn refusal_cause(refusal: Refusal) -> RowCause
 
 fn make_room(
     alloc: Global,
-    years: &mut Vec<BTreeMap<String, FamilyYear>>,
+    years: &mut Vec<Families>,
+    hashing: NameHashing,
     year: u16,
 ) -> Result<(), AllocError>
     ensures same { (holder : AnyHolder) → found_in (books_of years.new.items) holder
@@ -269,26 +289,30 @@ fn make_room(
 {
     let missing = (usize::from(year) + 1).saturating_sub(years.len());
     for _ in 0..missing {
-        add_year(alloc, years)?;
+        add_year(alloc, years, hashing)?;
     }
     Ok(())
 }
 
 // Appends a year without balances.
 #[tactic(auto, using(crate::proofs::Books::room_found, crate::proofs::Books::room_kept))]
-fn add_year(alloc: Global, years: &mut Vec<BTreeMap<String, FamilyYear>>) -> Result<(), AllocError>
+fn add_year(
+    alloc: Global,
+    years: &mut Vec<Families>,
+    hashing: NameHashing,
+) -> Result<(), AllocError>
     ensures same { (holder : AnyHolder) → found_in (books_of years.new.items) holder
         ≡ found_in (books_of years.old.items) holder }
     ensures once { AreOnce (books_of years.old.items) → AreOnce (books_of years.new.items) }
     ensures room { OnOk result (length years.new.items ≡ length years.old.items + 1) }
 {
-    years.push(BTreeMap::new(alloc))?;
+    years.push(HashMap::with_hasher(alloc, hashing))?;
     Ok(())
 }
 
 // Adds a new family to a year that has an entry.
 fn add(
-    years: &mut Vec<BTreeMap<String, FamilyYear>>,
+    years: &mut Vec<Families>,
     family: String,
     year: u16,
     family_year: FamilyYear,
@@ -310,7 +334,7 @@ fn add(
 
 // Adds a member, whose balance is not refused, to its family.
 fn join(
-    years: &mut Vec<BTreeMap<String, FamilyYear>>,
+    years: &mut Vec<Families>,
     family: &str,
     year: u16,
     member: String,

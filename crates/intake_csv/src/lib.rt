@@ -23,6 +23,7 @@ mod field;
 mod header;
 mod headered_file;
 mod laws;
+mod name_hashing;
 mod records;
 mod row_summary;
 mod rows;

@@ -1,7 +1,7 @@
 use Rattle.std.proofs.lemmas.Grind.{common_steps}
 use Rattle.std.proofs.lemmas.Bool.{false≢true}
 use Rattle.std.proofs.Common.{◌≡◌, get_or, string_bytes, None, Some, sym, rules, arith}
-use Rattle.std.proofs.lemmas.Map.Text.{btree_map_updates_text}
+use Rattle.std.proofs.lemmas.Map.Text.{hash_map_updates_text}
 use Rattle.std.specs.Str.{bytes_eq}
 use Rattle.intake_csv.specs.FamilyYears.{AreOnceBy}
 use Rattle.intake_csv.proofs.FamilyYears.{all-set}
@@ -25,7 +25,7 @@ returns-clause-joined c =
     let found = found-there years c.args.year c.from.result old c.args.family.now (Some c.in-Some.family_year.now) year c.index_mut.ensures.value c.requires.there c.in-Some.ensures.value in
     let updates = (c.get_mut.follows.holds c.join.new.self).3 (search rules) in
     rw year (joins_in years c.args.year old new c.args.family.now (string_bytes c.args.member) c.args.balance c.in-Some.family_year.now c.join.new.self c.join.result
-    (there-within years c.args.year c.args.family.now c.requires.there) found (λ p. rw (← year, present) (btree_map_updates_text c.args.family.now old new (Some c.join.new.self) updates p))
+    (there-within years c.args.year c.args.family.now c.requires.there) found (λ p. rw (← year, present) (hash_map_updates_text c.args.family.now old new (Some c.join.new.self) updates p))
     c.join.ensures.joined)
 
 pub returns-clause-once : goal.returns-clause-once

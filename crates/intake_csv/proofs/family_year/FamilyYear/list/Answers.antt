@@ -1,4 +1,4 @@
-use Rattle.std.proofs.Common.{◌≡◌, ◌∷◌, [], ◌++◌, ap, refl, sym, ◌∙◌, map, string_bytes}
+use Rattle.std.proofs.Common.{◌≡◌, ap, refl, ◌∙◌, map, string_bytes}
 use Rattle.std.proofs.lemmas.Map.Iter.{rest_all, rest_more}
 use Rattle.std.specs.Map.Iter.{deref_pair}
 use Rattle.intake_csv.specs.Balances.{opening_of}

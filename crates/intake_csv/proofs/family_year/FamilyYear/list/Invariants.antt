@@ -1,6 +1,5 @@
-use Rattle.std.proofs.Common.{◌≡◌, ◌++◌, ℕ, List, map}
-use Rattle.settlement.specs.declared.account.Balance.{Balance}
-use Rattle.intake_csv.specs.Balances.{Entry, opening_of}
+use Rattle.std.proofs.Common.{◌≡◌, ◌++◌, map}
+use Rattle.intake_csv.specs.Balances.{opening_of}
 use Rattle.intake_csv.proofs.Listing.{entry_in, named}
 use Rattle.intake_csv.proofs.family_year.FamilyYear.list.Given as goal
 
