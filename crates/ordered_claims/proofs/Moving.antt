@@ -145,3 +145,18 @@ gives_whole old between new from read left offer gives fewer moves = record {
   given = λ provider. ap (λ ns. count_of ns provider) moves.given ∙ gives.given provider;
   fewer = omega (arith, moves.as_many, gives.fewer, fewer);
 }
+
+-- a reader with other spare boxes has the same claims
+pub spared : (old new : FileReader) → new ≡ record old { spare = new.spare } → ReadsAhead old new
+spared old new same =
+    let ahead : ReadsAhead old (record old { spare = new.spare }) = record {
+      taken = refl;
+      reads = λ works. record {
+        worked = works;
+        works = works;
+        placed = λ placed. record { place = placed.place; within = placed.within; fits = placed.fits };
+        at = λ T provider at. record { ahead = at.ahead; others = at.others; over = at.over };
+        fewer = omega arith;
+      };
+    } in
+    subst (λ reader. ReadsAhead old reader) (sym same) ahead

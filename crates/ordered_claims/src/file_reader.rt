@@ -22,6 +22,8 @@ pub(crate) struct FileReader<'t> {
     pub(crate) is_over: bool,
     /// Memory ran out while a claim was read, so that a claim may be missing.
     pub(crate) has_failed: bool,
+    /// Boxes of decided claims, whose memory the next claims take.
+    pub(crate) spare: Vec<BoxedClaim>,
 }
 
 impl Drop for FileReader<'_> {
@@ -33,6 +35,7 @@ impl Drop for FileReader<'_> {
             wanted: _,
             is_over: _,
             has_failed: _,
+            spare: _,
         } = self;
     }
 }
@@ -60,9 +63,17 @@ impl<'t> FileReader<'t> {
             wanted: 1,
             is_over: false,
             has_failed: false,
+            spare: Vec::new(alloc),
         };
         reader.read_ahead(alloc, 1);
         Ok(reader)
+    }
+
+    /// Takes lists of boxes until there are enough for the claims to be read ahead.
+    pub(crate) fn add_spare(&mut self, lists: &mut Vec<Vec<BoxedClaim>>)
+        ensures { self.new ≡ record self.old { spare = self.new.spare } }
+    {
+        refill(&mut self.spare, self.wanted, lists);
     }
 
     /// Reads claims until `limit` claims are read and not taken yet, or no claim is left. If memory
@@ -90,7 +101,7 @@ impl<'t> FileReader<'t> {
         ensures reads { OnOk result (Reads self.old self.new) }
         ensures taken { self.new.taken ≡ self.old.taken }
     {
-        let Some(claim) = read_claim(alloc, &mut self.rows)? else {
+        let Some(claim) = read_claim(alloc, &mut self.rows, &mut self.spare)? else {
             self.is_over = true;
             return Ok(());
         };
@@ -100,7 +111,11 @@ impl<'t> FileReader<'t> {
 }
 
 // Reads the next claim. Refused records are skipped. Returns `None` if no claim is left.
-fn read_claim(alloc: Global, rows: &mut Rows<'_>) -> Result<Option<BoxedClaim>, AllocError>
+fn read_claim(
+    alloc: Global,
+    rows: &mut Rows<'_>,
+    spare: &mut Vec<BoxedClaim>,
+) -> Result<Option<BoxedClaim>, AllocError>
     requires within { rows.old.place < rows.old.number }
     requires fits { rows.old.place < 2 ^ 64 }
     ensures { IfOk result (ReadsClaim rows.old rows.new) }
@@ -113,8 +128,22 @@ fn read_claim(alloc: Global, rows: &mut Rows<'_>) -> Result<Option<BoxedClaim>, 
             return Ok(None);
         };
         if let Row::Good { claim, .. } = row {
-            let claim = BoxedClaim::new(alloc, claim)?;
+            let claim = BoxedClaim::in_spare(alloc, spare, claim)?;
             return Ok(Some(claim));
         }
+    }
+}
+
+// Moves the boxes of the last lists until there are at least `wanted` spare boxes. If memory runs out,
+// the boxes of a list are dropped.
+fn refill(spare: &mut Vec<BoxedClaim>, wanted: usize, lists: &mut Vec<Vec<BoxedClaim>>) {
+    for _ in 0..lists.len() {
+        if spare.len() >= wanted {
+            return;
+        }
+        let Some(mut list) = lists.pop() else {
+            return;
+        };
+        let _ = spare.append(&mut list);
     }
 }

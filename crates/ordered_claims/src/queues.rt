@@ -16,6 +16,13 @@ use std::marker::Model;
 /// The maximum number of claims of a file in memory, or more where files are given one after another.
 const CLAIMS_LIMIT: usize = 8_192;
 
+/// By day of service, the maximum number of claims of all files in memory, unless there are very many
+/// files.
+const CLAIMS_LIMIT_IN_ALL: usize = 32_768;
+
+/// The least limit of a file. It takes far longer to read 1,024 claims than to start a thread.
+const LEAST_CLAIMS_LIMIT: usize = 1_024;
+
 /// Where files are given one after another, a claim in memory for as many bytes of the file. One reader
 /// alone is slower than the run, so that claims of later files are read while earlier ones are given.
 /// The memory for them is small beside that of the run.
@@ -163,11 +170,17 @@ fn take_each(
 // Returns the maximum number of claims of the file at an index in memory.
 fn claims_limit(terms: &Terms, index: usize) -> usize {
     let Order::Files = terms.order() else {
-        return CLAIMS_LIMIT;
+        return equal_limit(terms.files().len());
     };
     let bytes = match terms.files().get(index) {
         Some(text) => text.len(),
         None => 0,
     };
     CLAIMS_LIMIT.max(bytes / BYTES_A_CLAIM_AHEAD)
+}
+
+// Returns the maximum number of claims of a file in memory where all files are read at the same time.
+fn equal_limit(files: usize) -> usize {
+    let share = CLAIMS_LIMIT_IN_ALL / files.max(1);
+    share.max(LEAST_CLAIMS_LIMIT).min(CLAIMS_LIMIT)
 }

@@ -5,7 +5,7 @@ ghost use Rattle.ordered_claims.specs.ReadAhead.{IsPlaced, ReadsAhead};
 ghost use Rattle.ordered_claims.specs.declared.file_reader.FileReader.{FileReader as AnyReader};
 
 use crate::file_reader::FileReader;
-use claim_gate::Terms;
+use claim_gate::{BoxedClaim, Terms};
 use std::alloc::{AllocError, Global};
 use std::marker::Model;
 use std::thread::{Threads, for_each_mut};
@@ -70,6 +70,17 @@ impl<'t> ClaimReaders<'t> {
     {
         read_each(rt, self.alloc, threads, self.files.as_mut_slice());
         self
+    }
+
+    /// Gives the readers boxes of decided claims, which the next claims take. Lists of boxes that no
+    /// reader needs remain.
+    pub fn reuse(&mut self, lists: &mut Vec<Vec<BoxedClaim>>)
+        ensures terms { self.new.terms ≡ self.old.terms }
+        ensures taken { self.new.taken ≡ self.old.taken }
+    {
+        'files: for index in 0..self.files.len() {
+            self.files[index].add_spare(lists);
+        }
     }
 
     /// Reads the next claim of the file at an index, unless a claim is read and not taken yet.
