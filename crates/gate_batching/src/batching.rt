@@ -28,7 +28,7 @@ pub const OFFERS_LIMIT: u32 = 1_024;
 
 /// The maximum number of claims that a worker takes in one turn. It is twice `OFFERS_LIMIT`, since
 /// longer turns mean fewer changes of turn.
-pub const TAKES_LIMIT: u32 = 2_048;
+pub const TAKES_LIMIT: usize = 2_048;
 
 /// No thread has the turn.
 const FREE: u32 = 0;
@@ -56,6 +56,16 @@ const REST_MICROS: u64 = 100;
 /// milliseconds, and it can delay the end of a run by as much.
 const DOUBLINGS_LIMIT: u32 = 5;
 
+/// The maximum number of resting workers that a worker leaves claims to.
+const SHARERS_LIMIT: u64 = 3;
+
+/// The number of ready claims from which on a worker takes them all. To decide 256 claims takes longer
+/// than to wake another worker, while the intake threads offer more.
+const MANY_CLAIMS: usize = 256;
+
+/// The least limit of a worker while others rest.
+const SHARE_LEAST: usize = 16;
+
 /// The shared state of the turns: one thread at a time has the turn and calls the gate, while the
 /// others wait for a bounded time.
 #[derive(Drop)]
@@ -63,8 +73,10 @@ pub struct GateBatching {
     word: AtomicU64,
     // The number of threads that sleep until the turn is given back.
     sleepers: AtomicU64,
-    // Idle workers sleep on this word. Their rests only end by time: no thread wakes them.
+    // Idle workers sleep on this word, which never changes.
     resting: AtomicU64,
+    // The number of workers that rest.
+    idle: AtomicU64,
     backlog: Backlog,
 }
 
@@ -75,6 +87,7 @@ impl GateBatching {
             word: AtomicU64::new(u64::from(FREE)),
             sleepers: AtomicU64::new(0),
             resting: AtomicU64::new(0),
+            idle: AtomicU64::new(0),
             backlog: Backlog::new(),
         }
     }
@@ -96,12 +109,33 @@ impl GateBatching {
     }
 
     /// Rests after a worker has found no claim. `rests` is the number of rests so far in a row, and
-    /// each rest is longer than the one before, up to a limit. Returns the new number of rests.
+    /// each rest is longer than the one before, up to a limit, unless another worker ends it. Returns
+    /// the new number of rests.
     pub fn rest<R: Wait>(&self, rt: &R, rests: u32) -> u32 {
         let micros = REST_MICROS << rests.min(DOUBLINGS_LIMIT);
+        self.idle.fetch_add(1, Ordering::SeqCst);
         self.resting
             .park_timeout(rt, 0, Duration::from_micros(micros));
+        self.idle.fetch_sub(1, Ordering::SeqCst);
         rests.saturating_add(1)
+    }
+
+    /// Returns the greatest number of claims that a worker should take in its next turn. In the last
+    /// one it took `taken` of at most `limit` claims.
+    ///
+    /// While few members have many claims, few claims are ready at a time, and one worker could take
+    /// them all. So while others rest, it takes only its share of them, and wakes one of the others
+    /// when some are left.
+    pub fn next_limit(&self, limit: usize, taken: usize) -> usize {
+        let idle = self.idle.load(Ordering::SeqCst).min(SHARERS_LIMIT) as usize;
+        if taken < limit {
+            return shared_limit(limit, taken, idle);
+        }
+        if idle == 0 {
+            return limit.saturating_mul(2).min(TAKES_LIMIT);
+        }
+        self.resting.wake_one();
+        limit
     }
 
     // Returns false if other threads had the turn for too long.
@@ -155,6 +189,15 @@ impl GateBatching {
         self.word
             .compare_exchange(from, to, Ordering::SeqCst, Ordering::SeqCst)
             .is_ok()
+    }
+}
+
+// Returns the limit after a turn that took all ready claims, while `idle` workers rest.
+fn shared_limit(limit: usize, taken: usize, idle: usize) -> usize {
+    if idle == 0 || taken >= MANY_CLAIMS {
+        limit
+    } else {
+        (taken / idle.saturating_add(1)).max(SHARE_LEAST)
     }
 }
 

@@ -1,6 +1,6 @@
 //! Turns of a single thread: a turn is held until it is dropped, and every wait ends.
 
-use super::{FREE, GateBatching, HELD};
+use super::{FREE, GateBatching, HELD, TAKES_LIMIT, shared_limit};
 use std::sync::atomic::Ordering;
 use std::test::Fail;
 
@@ -41,5 +41,24 @@ fn offers_begin_where_few_claims_wait(rt: HostRuntime) -> Result<(), Fail> {
     first.count_taken();
     drop(first);
     assert!(rt; turns.begin_offers(&rt).has);
+    Ok(())
+}
+
+#[test]
+fn a_worker_leaves_others_their_share(rt: HostRuntime) -> Result<(), Fail> {
+    let turns = GateBatching::new();
+    // No worker rests: the limit stays, or grows up to the greatest one.
+    assert!(rt; turns.next_limit(100, 99) == 100);
+    assert!(rt; turns.next_limit(100, 100) == 200);
+    assert!(rt; turns.next_limit(TAKES_LIMIT, TAKES_LIMIT) == TAKES_LIMIT);
+    // One or three workers rest.
+    assert!(rt; shared_limit(TAKES_LIMIT, 100, 1) == 50);
+    assert!(rt; shared_limit(TAKES_LIMIT, 100, 3) == 25);
+    assert!(rt; shared_limit(TAKES_LIMIT, 10, 1) == 16);
+    assert!(rt; shared_limit(TAKES_LIMIT, 255, 1) == 127);
+    assert!(rt; shared_limit(TAKES_LIMIT, 256, 1) == TAKES_LIMIT);
+    // Nobody rests after a rest.
+    assert!(rt; turns.rest(&rt, 0) == 1);
+    assert!(rt; turns.next_limit(100, 99) == 100);
     Ok(())
 }
