@@ -106,10 +106,10 @@ left_none law parts T provider count left terms least most none h =
     }
 
 -- at the first record no claim is read
-pub first_record : StartHasTheRows → (parts : TermsParts) (seen : GateParts) (provider : ℕ) (left : RowsLeft) → seen.terms ≡ parts → 1 ≤ provider
+pub first_record : StartHasTheRows → (parts : TermsParts) (seen : GateParts) (base : Intake) (provider : ℕ) (left : RowsLeft) → seen.terms ≡ parts → 1 ≤ provider
     → provider ≤ length parts.files → IsAtStart parts.plan.names (get_or parts.files (provider - 1) []) left
-    → IsAtRecord parts seen (record { provider = provider; rows = left; count = 0; expected = 0 })
-first_record law parts seen provider left of_terms least most start = record {
+    → IsAtRecord parts seen (record base { provider = provider; rows = left; count = 0; expected = 0 })
+first_record law parts seen base provider left of_terms least most start = record {
   of_terms = of_terms;
   claims = λ T is. left_first law parts T provider left is least most start;
   has_taken = omega arith;
@@ -117,6 +117,13 @@ first_record law parts seen provider left of_terms least most start = record {
   place = start.place;
   fewer = omega (arith, start.place, start.number);
 }
+
+-- spare boxes have no effect on where an intake is
+pub spared : (terms : TermsParts) (seen : GateParts) (old new : Intake) → new ≡ record old { spare = new.spare } → IsAtRecord terms seen old → IsAtRecord terms seen new
+spared terms seen old new same h =
+    let at : IsAtRecord terms seen (record old { spare = new.spare }) =
+    record { of_terms = h.of_terms; claims = h.claims; has_taken = h.has_taken; reached = h.reached; place = h.place; fewer = h.fewer } in
+    subst (λ intake. IsAtRecord terms seen intake) (sym same) at
 
 -- after a refused record the intake is at the next record
 pub after_refused : GivenRowHasTheClaim → (terms : TermsParts) (seen : GateParts) (intake : Intake) (new : RowsLeft) (number : ℕ) (fault : RowFault)
@@ -152,10 +159,11 @@ after_last terms seen intake new none over h = rw over (record {
   none = none;
 })
 
-module _ (law : GivenRowHasTheClaim) (intake : Intake) (new : RowsLeft) (number place : ℕ) (claim : Claim) (gives : GivesRow intake.rows new (Good number place claim)) where
+-- `base` has the spare boxes of the intake, which no fact depends on
+module _ (law : GivenRowHasTheClaim) (intake base : Intake) (new : RowsLeft) (number place : ℕ) (claim : Claim) (gives : GivesRow intake.rows new (Good number place claim)) where
   -- after a claim, and once all claims before a later place are accepted, the intake is at the next record
   after_claim : (terms : TermsParts) (seen later : GateParts) (next : ℕ) → IsAtRecord terms seen intake → later.terms ≡ terms → intake.count < next
-      → HasAccepted later intake.provider next → IsAtRecord terms later (record { provider = intake.provider; rows = new; count = intake.count + 1; expected = next })
+      → HasAccepted later intake.provider next → IsAtRecord terms later (record base { provider = intake.provider; rows = new; count = intake.count + 1; expected = next })
   after_claim terms seen later next h of_terms reached has_taken = record {
     of_terms = of_terms;
     claims = λ T is. left_after law T intake.provider intake.count intake.rows new number place claim (h.claims T is) gives;
@@ -172,7 +180,7 @@ module _ (law : GivenRowHasTheClaim) (intake : Intake) (new : RowsLeft) (number 
 
   -- a claim that is accepted already is skipped
   pub skipped : (terms : TermsParts) (seen : GateParts) → intake.count < intake.expected → IsAtRecord terms seen intake
-      → HasRead terms seen intake (record { provider = intake.provider; rows = new; count = intake.count + 1; expected = intake.expected })
+      → HasRead terms seen intake (record base { provider = intake.provider; rows = new; count = intake.count + 1; expected = intake.expected })
   skipped terms seen earlier h = record {
     at = after_claim terms seen seen intake.expected h h.of_terms earlier h.has_taken;
     same = refl;
@@ -187,7 +195,7 @@ module _ (law : GivenRowHasTheClaim) (intake : Intake) (new : RowsLeft) (number 
 
   -- another claim is to be offered
   pub to_offer : (terms : TermsParts) (seen : GateParts) → intake.count + 1 < 2 ^ 64 → intake.expected ≤ intake.count → IsAtRecord terms seen intake
-      → IsToOffer terms seen intake (record { provider = intake.provider; rows = new; count = intake.count + 1; expected = intake.expected })
+      → IsToOffer terms seen intake (record base { provider = intake.provider; rows = new; count = intake.count + 1; expected = intake.expected })
       (record { provider = intake.provider; place = intake.count; claim = claim })
   to_offer terms seen small later h = record {
     same = refl;

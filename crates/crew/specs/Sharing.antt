@@ -60,19 +60,15 @@ pub record IsSettledIn (gate : GateParts) (settled : DecidedJob) : Type 0 where
 abbrev pub IsRecordedIn : GateParts → DecidedJob → Type 0
 IsRecordedIn gate settled = has_decision gate.journal settled.job.position ≡ true
 
--- the maximum number of claims that a worker takes in one turn
-abbrev pub takes_limit : ℕ
-takes_limit = 2048
-
 -- the claims of a worker's turn are in work, and the turn ended because it had its maximum of claims or no claim was ready
-pub record AreTaken (known : Known) (jobs : List Job) : Type 0 where
+pub record AreTaken (limit : ℕ) (known : Known) (jobs : List Job) : Type 0 where
   pub in_work : All (IsInWork known.seen) jobs
-  pub whole : (length jobs ≡ takes_limit) ⊎ FoundNothing known
+  pub whole : (length jobs ≡ limit) ⊎ FoundNothing known
 
--- the result of a worker's calls in one turn: a finished journal, or claims in work
-abbrev pub IsGathered : Known → TakenJobs → Type 0
-IsGathered known gathered.Over = ForTerms known.seen.terms (λ T. Finished T known.seen.journal)
-IsGathered known (gathered.Jobs jobs) = AreTaken known jobs.items
+-- the result of a worker's calls in one turn: a finished journal, or at most `limit` claims in work
+abbrev pub IsGathered : ℕ → Known → TakenJobs → Type 0
+IsGathered limit known gathered.Over = ForTerms known.seen.terms (λ T. Finished T known.seen.journal)
+IsGathered limit known (gathered.Jobs jobs) = AreTaken limit known jobs.items
 
 -- a claim with its outcome under a plan
 abbrev pub settled_by : PlanParts → Job → DecidedJob

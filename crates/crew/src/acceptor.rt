@@ -67,6 +67,7 @@ pub(crate) fn run_acceptor<R: Threads + Wait + Sync, G: Gate, F: Fetching<G>>(
     };
     let threads = reader_count(shared.rt);
     let (mut queues, mut readers) = claims.split();
+    let mut spare = Vec::new(shared.alloc);
     for _ in shared.rt.forever() {
         let Ok(()) = queues.take_from(&mut readers) else {
             return Err(Exit {
@@ -74,6 +75,10 @@ pub(crate) fn run_acceptor<R: Threads + Wait + Sync, G: Gate, F: Fetching<G>>(
                 pass,
             });
         };
+        if spare.is_empty() {
+            spare = shared.spare.take_all(shared.rt);
+        }
+        readers.reuse(&mut spare);
         let (read, onward) = offer_while_reading(shared, fetching, pass, queues, readers, threads);
         let onward = match onward {
             Ok(onward) => onward,

@@ -30,6 +30,8 @@ struct Intake<'t> {
     count: usize,
     /// The place from which claims are offered. Those before it are accepted already.
     expected: usize,
+    /// Boxes of decided claims, which the next claims take.
+    spare: Vec<BoxedClaim>,
 }
 
 /// The next step of an intake.
@@ -107,8 +109,10 @@ fn run_intake<R: Wait, G: Gate>(
         rows,
         count: 0,
         expected: 0,
+        spare: Vec::new(shared.alloc),
     };
     'turns: loop {
+        take_spare(shared, &mut intake);
         let onward = match offer_turn(shared, pass, &mut intake) {
             Ok(onward) => onward,
             Err(exit) => return Err(exit),
@@ -119,6 +123,15 @@ fn run_intake<R: Wait, G: Gate>(
             Step::EndProvider => return end(shared, back, provider, intake.count),
             Step::Leave => return Ok(back),
         }
+    }
+}
+
+// Gives an intake without spare boxes those of a worker's turn.
+fn take_spare<R: Wait, G>(shared: &Shared<R, G>, intake: &mut Intake<'_>)
+    ensures { intake.new ≡ record intake.old { spare = intake.new.spare } }
+{
+    if intake.spare.is_empty() {
+        intake.spare = shared.spare.take(shared.rt);
     }
 }
 
@@ -234,7 +247,7 @@ fn read_record(alloc: Global, intake: &mut Intake<'_>) -> Result<Record, AllocEr
     let Row::Good { claim, .. } = row else {
         return Ok(Record::Skipped);
     };
-    let claim = BoxedClaim::new(alloc, claim)?;
+    let claim = BoxedClaim::in_spare(alloc, &mut intake.spare, claim)?;
     let place = intake.count;
     intake.count += 1;
     if place < intake.expected {

@@ -18,6 +18,7 @@ mod least_fault;
 mod offering;
 mod reading_signal;
 mod shared;
+mod spare_claims;
 mod stopping;
 mod threads;
 mod worker;

@@ -1,6 +1,7 @@
 //! What the threads of a run share, and what their functions return.
 
 use crate::least_fault::LeastFault;
+use crate::spare_claims::SpareClaims;
 use claim_gate::Terms;
 use cutplan::CutPlan;
 use faults::RunFault;
@@ -19,6 +20,8 @@ pub(crate) struct Shared<'r, 't, 'p, R, G> {
     pub(crate) gate: &'r G,
     /// The hints about which thread calls the gate next.
     pub(crate) turns: GateBatching,
+    /// Lists of the boxes of decided claims, whose memory other claims can take.
+    pub(crate) spare: SpareClaims,
     /// The first fault of the threads.
     pub(crate) least: LeastFault,
     /// The number of decided claims, which a caller may watch.

@@ -15,6 +15,7 @@ use crate::fetching::{Fetching, GateFetching, NoFetching};
 use crate::intake::run_intake_part;
 use crate::least_fault::LeastFault;
 use crate::shared::{Exit, Shared};
+use crate::spare_claims::SpareClaims;
 use crate::stopping::stop;
 use crate::worker::run_worker;
 use claim_gate::{
@@ -226,6 +227,7 @@ fn run_on<R: Threads + Wait + Sync, G: Gate + Sync, F: Fetching<G> + Sync>(
         plan: &plan,
         gate,
         turns: GateBatching::new(),
+        spare: SpareClaims::new(alloc),
         least: LeastFault::new(),
         decided,
     };

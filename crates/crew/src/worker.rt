@@ -67,8 +67,9 @@ pub(crate) fn run_worker<R: Wait, G: Gate>(
     };
     let mut settled = Vec::new(shared.alloc);
     let mut rests = 0;
+    let mut limit = TAKES_LIMIT;
     for _ in shared.rt.forever() {
-        let onward = match take_turn(shared, pass, settled) {
+        let onward = match take_turn(shared, pass, settled, limit) {
             Ok(onward) => onward,
             Err(exit) => return Err(exit),
         };
@@ -77,11 +78,12 @@ pub(crate) fn run_worker<R: Wait, G: Gate>(
             TakenJobs::Over => return Ok(back),
             TakenJobs::Jobs(jobs) => jobs,
         };
-        rests = if jobs.is_empty() {
-            shared.turns.rest(shared.rt, rests)
+        if jobs.is_empty() {
+            rests = shared.turns.rest(shared.rt, rests);
         } else {
-            0
-        };
+            rests = 0;
+            limit = shared.turns.next_limit(limit, jobs.len());
+        }
         let Ok(decided) = decide_all(shared.alloc, &mut adjudicator, jobs) else {
             return Err(Exit {
                 fault: RunFault::OutOfMemory,
@@ -97,12 +99,13 @@ pub(crate) fn run_worker<R: Wait, G: Gate>(
     unreachable!()
 }
 
-// Records the outcomes of the last turn and takes claims, in one turn. To keep the turn short, memory for as many claims as in
-// the last turn is allocated before it, and the decided claims are dropped after it.
+// Records the outcomes of the last turn and takes up to `limit` claims, in one turn. To keep the turn short, memory for as many
+// claims as in the last turn is allocated before it, and the decided claims are kept for others after it.
 fn take_turn<R: Wait, G: Gate>(
     shared: &Shared<R, G>,
     pass: G::Pass,
     settled: Vec<DecidedJob>,
+    limit: usize,
 ) -> Result<Onward<TakenJobs, G::Pass>, Exit<G::Pass>>
     requires own { G.has_pass shared.now.gate.now pass }
     requires terms { (G.known pass).seen.terms ≡ shared.now.terms.now }
@@ -111,7 +114,7 @@ fn take_turn<R: Wait, G: Gate>(
         (λ r. GoesOn (G.has_pass shared.now.gate.now) G.known pass r.pass) }
     ensures recorded { IfOk result
         (λ r. All (IsRecordedIn (G.known r.pass).seen) settled.items) }
-    ensures gathered { IfOk result (λ r. IsGathered (G.known r.pass) r.value) }
+    ensures gathered { IfOk result (λ r. IsGathered limit (G.known r.pass) r.value) }
     ensures leaves { IfErr result
         (LeavesWith (G.has_pass shared.now.gate.now) G.is_worn G.known pass) }
 {
@@ -132,7 +135,9 @@ fn take_turn<R: Wait, G: Gate>(
         Ok(pass) => pass,
         Err(exit) => return Err(exit),
     };
-    gather(shared, pass, jobs, &turn)
+    let gathered = gather(shared, pass, jobs, limit, turn);
+    shared.spare.put(shared.rt, released);
+    gathered
 }
 
 // Takes claims, one call after another, until none is ready or the turn has reached its limit.
@@ -140,20 +145,21 @@ fn gather<R: Wait, G: Gate>(
     shared: &Shared<R, G>,
     mut pass: G::Pass,
     mut jobs: Vec<Job>,
-    turn: &BatchTurn,
+    limit: usize,
+    turn: BatchTurn,
 ) -> Result<Onward<TakenJobs, G::Pass>, Exit<G::Pass>>
     requires own { G.has_pass shared.now.gate.now pass }
     requires terms { (G.known pass).seen.terms ≡ shared.now.terms.now }
     requires none { jobs.items ≡ [] }
     ensures goes_on { IfOk result
         (λ r. GoesOn (G.has_pass shared.now.gate.now) G.known pass r.pass) }
-    ensures gathered { IfOk result (λ r. IsGathered (G.known r.pass) r.value) }
+    ensures gathered { IfOk result (λ r. IsGathered limit (G.known r.pass) r.value) }
     ensures leaves { IfErr result
         (LeavesWith (G.has_pass shared.now.gate.now) G.is_worn G.known pass) }
 {
     // proof: a job is a job in every later state of the gate.
     jobs_are_stable();
-    'calls: for call in 0..TAKES_LIMIT {
+    'calls: for call in 0..limit {
         let onward = match take(shared, pass) {
             Ok(onward) => onward,
             Err(exit) => return Err(exit),

@@ -49,7 +49,7 @@ loop-preserved g c =
       further (g.G.Gate.has_pass c.args.shared.now.gate.now) known c.args.pass c.loop.pass back c.loop.invariant.2 on,
       rest.at,
       joined_after c.args.shared.now.terms.now (known back).seen c.take_from.new.self c.in-Part.rest c.take_from.new.readers c.offer_while_reading-read.result.0 c.take_from.ensures.joined
-          round.terms round.taken (c.take_from.ensures.terms ∙ c.loop.invariant.3.of_terms) rest,
+          (round.terms ∙ c.reuse.ensures.terms) (round.taken ∙ c.reuse.ensures.taken) (c.take_from.ensures.terms ∙ c.loop.invariant.3.of_terms) rest,
     )
 
 pub end_all-requires-clause-own : goal.end_all-requires-clause-own

@@ -17,14 +17,16 @@ pub returns-then-place-intake : goal.returns-then-place-intake
 returns-then-place-intake c terms seen h =
     let given = rw c.in-Some.is at c.in_ok-row.ensures.gives in
     let some = rw c.in-Good.is at given in
-    skipped c.given_row_has_the_claim.ensures c.args.intake.now c.next.new.self c.in-Good.number c.in-Good.place c.in-Good.claim some terms seen c.if-place-intake.true h
+    let base = record c.args.intake.now { spare = c.in_spare.new.spare } in
+    skipped c.given_row_has_the_claim.ensures c.args.intake.now base c.next.new.self c.in-Good.number c.in-Good.place c.in-Good.claim some terms seen c.if-place-intake.true h
 
 pub returns : goal.returns
 returns c terms seen h =
     let given = rw c.in-Some.is at c.in_ok-row.ensures.gives in
     let some = rw c.in-Good.is at given in
+    let base = record c.args.intake.now { spare = c.in_spare.new.spare } in
     let number : c.in-Good.number < 2 ^ 64 = search rules in
-    let small = room c.given_row_has_the_claim.ensures c.args.intake.now c.next.new.self c.in-Good.number c.in-Good.place c.in-Good.claim some number c.requires.place c.requires.fewer in
+    let small = room c.given_row_has_the_claim.ensures c.args.intake.now base c.next.new.self c.in-Good.number c.in-Good.place c.in-Good.claim some number c.requires.place c.requires.fewer in
     let claim : c.in_ok-claim.claim ≡ c.in-Good.claim = c.in_ok-claim.ensures.value in
-    rw claim (to_offer c.given_row_has_the_claim.ensures c.args.intake.now c.next.new.self c.in-Good.number c.in-Good.place c.in-Good.claim some terms seen small
+    rw claim (to_offer c.given_row_has_the_claim.ensures c.args.intake.now base c.next.new.self c.in-Good.number c.in-Good.place c.in-Good.claim some terms seen small
     c.if-place-intake.false h)

@@ -1,18 +1,20 @@
-use Rattle.std.proofs.Common.{refl, ◌∙◌, arith}
+use Rattle.std.proofs.Common.{◌<◌, ap, length, refl, subst, ◌∙◌, arith}
 use Rattle.std.proofs.lemmas.Bool.{or_left}
 use Rattle.journal.specs.Events.{has_end}
 use Rattle.crew.specs.Sharing.{is_shut}
-use Rattle.crew.proofs.Lefts.{first_record, left_none}
+use Rattle.crew.specs.declared.intake.Intake.{Intake}
+use Rattle.crew.proofs.Lefts.{first_record, left_none, spared}
 use Rattle.crew.proofs.Passes.{further, further_where_ok, leaves_by_memory, leaves_later, leaves_later_where_err, unchanged}
 use Rattle.crew.proofs.intake.run_intake.Goals as goal
 
 pub turns-init : goal.turns-init
-turns-init g c = (
-  unchanged (g.G.Gate.has_pass c.args.shared.now.gate.now) g.G.Gate.known c.args.pass c.args.pass c.requires.own refl,
-  first_record c.reader_begins_with_all_rows.ensures c.args.shared.now.terms.now (g.G.Gate.known c.args.pass).seen c.args.provider c.in-Ok.rows c.requires.terms c.requires.least
-      c.requires.most c.in-Ok.ensures.rows,
-  refl,
-)
+turns-init g c =
+    let first : Intake = record { provider = c.args.provider; rows = c.in-Ok.rows; count = 0; expected = 0; spare = c.new.result } in (
+      unchanged (g.G.Gate.has_pass c.args.shared.now.gate.now) g.G.Gate.known c.args.pass c.args.pass c.requires.own refl,
+      first_record c.reader_begins_with_all_rows.ensures c.args.shared.now.terms.now (g.G.Gate.known c.args.pass).seen first c.args.provider c.in-Ok.rows c.requires.terms
+          c.requires.least c.requires.most c.in-Ok.ensures.rows,
+      refl,
+    )
 
 pub returns-in-Err-clause-leaves : goal.returns-in-Err-clause-leaves
 returns-in-Err-clause-leaves g c =
@@ -27,7 +29,8 @@ pub offer_turn-requires-clause-any_order : goal.offer_turn-requires-clause-any_o
 offer_turn-requires-clause-any_order g c κs within = c.requires.any_order
 
 pub offer_turn-requires-clause-at : goal.offer_turn-requires-clause-at
-offer_turn-requires-clause-at g c κs within = c.turns.invariant.1
+offer_turn-requires-clause-at g c κs within =
+    spared c.args.shared.now.terms.now (g.G.Gate.known c.turns.pass).seen c.turns.intake c.take_spare.new.intake c.take_spare.ensures c.turns.invariant.1
 
 pub returns-in-Err-offer_turn-clause-leaves : goal.returns-in-Err-offer_turn-clause-leaves
 returns-in-Err-offer_turn-clause-leaves g c =
@@ -40,7 +43,7 @@ turns-preserved g c =
     let read = rw c.in-NextRecord.is at on.step in (
       further (g.G.Gate.has_pass c.args.shared.now.gate.now) g.G.Gate.known c.args.pass c.turns.pass c.in-Ok-offer_turn.onward.pass c.turns.invariant.0 on.goes_on,
       read.at,
-      read.same ∙ c.turns.invariant.2,
+      read.same ∙ (ap (λ intake. intake.provider) c.take_spare.ensures ∙ c.turns.invariant.2),
     )
 
 pub returns-in-EndProvider-clause-goes_on : goal.returns-in-EndProvider-clause-goes_on
@@ -67,13 +70,13 @@ pub end-requires-clause-claims : goal.end-requires-clause-claims
 end-requires-clause-claims g c κs within T is =
     let read = rw c.in-EndProvider.is at c.in-Ok-offer_turn.ensures.step in
     let intake = c.offer_turn.new.intake in
-    let left = rw (read.same ∙ c.turns.invariant.2) at read.at.claims in
+    let left = rw (read.same ∙ (ap (λ intake. intake.provider) c.take_spare.ensures ∙ c.turns.invariant.2)) at read.at.claims in
     left_none c.no_records_give_no_rows.ensures c.args.shared.now.terms.now T c.args.provider intake.count intake.rows is c.requires.least c.requires.most read.none (left T is)
 
 pub end-requires-clause-taken : goal.end-requires-clause-taken
 end-requires-clause-taken g c κs within =
     let read = rw c.in-EndProvider.is at c.in-Ok-offer_turn.ensures.step in
-    let taken = rw (read.same ∙ c.turns.invariant.2) at read.at.has_taken in
+    let taken = rw (read.same ∙ (ap (λ intake. intake.provider) c.take_spare.ensures ∙ c.turns.invariant.2)) at read.at.has_taken in
     omega (arith, taken, read.at.reached)
 
 pub returns-in-Leave-clause-goes_on : goal.returns-in-Leave-clause-goes_on
@@ -88,4 +91,4 @@ returns-in-Leave-clause-past g c =
 pub turns-smaller : goal.turns-smaller
 turns-smaller g c =
     let read = rw c.in-NextRecord.is at c.in-Ok-offer_turn.ensures.step in
-    read.fewer
+    subst (λ k. length c.offer_turn.new.intake.rows.records < k) (ap (λ intake. length intake.rows.records) c.take_spare.ensures) read.fewer

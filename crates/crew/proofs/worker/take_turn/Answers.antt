@@ -21,26 +21,26 @@ record_all-requires-clause-settled g c κs within = c.requires.settled
 pub returns-in-Err-clause-leaves : goal.returns-in-Err-clause-leaves
 returns-in-Err-clause-leaves g c = c.in-Err.ensures.leaves
 
-pub gather-requires-clause-own : goal.gather-requires-clause-own
-gather-requires-clause-own g c κs within = c.in-Ok-record_all.ensures.goes_on.own
+pub gather-gathered-requires-clause-own : goal.gather-gathered-requires-clause-own
+gather-gathered-requires-clause-own g c κs within = c.in-Ok-record_all.ensures.goes_on.own
 
-pub gather-requires-clause-terms : goal.gather-requires-clause-terms
-gather-requires-clause-terms g c κs within = c.in-Ok-record_all.ensures.goes_on.seen.terms ∙ c.requires.terms
+pub gather-gathered-requires-clause-terms : goal.gather-gathered-requires-clause-terms
+gather-gathered-requires-clause-terms g c κs within = c.in-Ok-record_all.ensures.goes_on.seen.terms ∙ c.requires.terms
 
 pub returns-clause-goes_on : goal.returns-clause-goes_on
 returns-clause-goes_on g c =
-    further_beside (g.G.Gate.has_pass c.args.shared.now.gate.now) g.G.Gate.known c.args.pass c.in-Ok-record_all.pass c.gather.result c.in-Ok-record_all.ensures.goes_on
-    c.gather.ensures.goes_on
+    further_beside (g.G.Gate.has_pass c.args.shared.now.gate.now) g.G.Gate.known c.args.pass c.in-Ok-record_all.pass c.gather-gathered.result c.in-Ok-record_all.ensures.goes_on
+    c.gather-gathered.ensures.goes_on
 
 pub returns-clause-gathered : goal.returns-clause-gathered
-returns-clause-gathered g c = c.gather.ensures.gathered
+returns-clause-gathered g c = c.gather-gathered.ensures.gathered
 
 pub returns-clause-leaves : goal.returns-clause-leaves
 returns-clause-leaves g c =
-    leaves_later_where_err (g.G.Gate.has_pass c.args.shared.now.gate.now) g.G.Gate.known g.G.Gate.is_worn c.args.pass c.in-Ok-record_all.pass c.gather.result
-    c.in-Ok-record_all.ensures.goes_on c.gather.ensures.leaves
+    leaves_later_where_err (g.G.Gate.has_pass c.args.shared.now.gate.now) g.G.Gate.known g.G.Gate.is_worn c.args.pass c.in-Ok-record_all.pass c.gather-gathered.result
+    c.in-Ok-record_all.ensures.goes_on c.gather-gathered.ensures.leaves
 
 pub returns-clause-recorded : goal.returns-clause-recorded
 returns-clause-recorded g c =
-    let leads = leads_beside (g.G.Gate.has_pass c.args.shared.now.gate.now) g.G.Gate.known c.in-Ok-record_all.pass c.gather.result c.gather.ensures.goes_on in
-    all_recorded_beside g.G.Gate.known (g.G.Gate.known c.in-Ok-record_all.pass).seen c.args.settled.items c.gather.result c.in-Ok-record_all.ensures.recorded leads
+    let leads = leads_beside (g.G.Gate.has_pass c.args.shared.now.gate.now) g.G.Gate.known c.in-Ok-record_all.pass c.gather-gathered.result c.gather-gathered.ensures.goes_on in
+    all_recorded_beside g.G.Gate.known (g.G.Gate.known c.in-Ok-record_all.pass).seen c.args.settled.items c.gather-gathered.result c.in-Ok-record_all.ensures.recorded leads
