@@ -40,6 +40,10 @@ const HELD: u32 = 1;
 /// asleep and wake up again.
 const LOOKS_LIMIT: u32 = 12;
 
+/// The number of looks at the turn in which an intake thread leaves it to a thread that sleeps: about
+/// as long as that thread needs to wake up.
+const SLEEPER_LOOKS: u32 = 100;
+
 /// The maximum length of one sleep. A sleep normally ends when the turn is given back; the bound
 /// serves the case that the thread that is woken is not scheduled for a while.
 const SLEEP_MICROS: u64 = 500;
@@ -64,7 +68,7 @@ const SHARERS_LIMIT: u64 = 3;
 const MANY_CLAIMS: usize = 256;
 
 /// The least limit of a worker while others rest.
-const SHARE_LEAST: usize = 16;
+const SHARE_LEAST: usize = 2;
 
 /// The shared state of the turns: one thread at a time has the turn and calls the gate, while the
 /// others wait for a bounded time.
@@ -102,9 +106,10 @@ impl GateBatching {
     }
 
     /// Begins a turn of an intake thread, which sleeps first, for a bounded time, if it is far
-    /// ahead of the workers.
+    /// ahead of the workers. It leaves the turn to a thread that sleeps, if there is one.
     pub fn begin_offers<R: Wait>(&self, rt: &R) -> BatchTurn<'_> {
         self.backlog.await_shorter(rt);
+        self.let_sleeper_in();
         self.begin(rt)
     }
 
@@ -164,6 +169,23 @@ impl GateBatching {
             }
         }
         false
+    }
+
+    // Lets a thread that was woken obtain the turn. An intake thread that has given the turn back would
+    // take it again before that thread is scheduled, turn after turn, and the workers would stand idle
+    // until it is far ahead.
+    fn let_sleeper_in(&self) {
+        let backoff = Backoff::new();
+        for _ in 0..SLEEPER_LOOKS {
+            if !self.has_sleepers() || self.is_held() {
+                return;
+            }
+            backoff.snooze();
+        }
+    }
+
+    fn is_held(&self) -> bool {
+        self.word.load(Ordering::SeqCst) == u64::from(HELD)
     }
 
     fn sleep<R: Wait>(&self, rt: &R) {

@@ -45,6 +45,15 @@ fn offers_begin_where_few_claims_wait(rt: HostRuntime) -> Result<(), Fail> {
 }
 
 #[test]
+fn offers_begin_though_a_sleeper_does_not_wake(rt: HostRuntime) -> Result<(), Fail> {
+    let turns = GateBatching::new();
+    turns.sleepers.fetch_add(1, Ordering::SeqCst);
+    let turn = turns.begin_offers(&rt);
+    assert!(rt; turn.has);
+    Ok(())
+}
+
+#[test]
 fn a_worker_leaves_others_their_share(rt: HostRuntime) -> Result<(), Fail> {
     let turns = GateBatching::new();
     // No worker rests: the limit stays, or grows up to the greatest one.
@@ -54,7 +63,8 @@ fn a_worker_leaves_others_their_share(rt: HostRuntime) -> Result<(), Fail> {
     // One or three workers rest.
     assert!(rt; shared_limit(TAKES_LIMIT, 100, 1) == 50);
     assert!(rt; shared_limit(TAKES_LIMIT, 100, 3) == 25);
-    assert!(rt; shared_limit(TAKES_LIMIT, 10, 1) == 16);
+    assert!(rt; shared_limit(TAKES_LIMIT, 10, 1) == 5);
+    assert!(rt; shared_limit(TAKES_LIMIT, 3, 3) == 2);
     assert!(rt; shared_limit(TAKES_LIMIT, 255, 1) == 127);
     assert!(rt; shared_limit(TAKES_LIMIT, 256, 1) == TAKES_LIMIT);
     // Nobody rests after a rest.
