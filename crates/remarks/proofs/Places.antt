@@ -1,6 +1,5 @@
 -- The places of a reader, and its states.
-use Rattle.std.proofs.Common.{◌≡◌, ◌≢◌, ◌<◌, ◌≤◌, ◌+◌, ℕ, Bool, true, false, zero, suc, nat_eq, List, [], ◌∷◌, ◌++◌, Some, take, length, ap, sym, subst, refl, ◌∙◌, add-one, arith}
-use Rattle.std.specs.List.{list_any}
+use Rattle.std.proofs.Common.{◌≡◌, ◌≢◌, ◌<◌, ◌≤◌, ◌+◌, ℕ, Bool, true, false, zero, suc, List, [], ◌∷◌, ◌++◌, Some, take, length, ap, sym, subst, refl, ◌∙◌, add-one, arith}
 use Rattle.std.proofs.Math.Seq.{take-suc}
 use Rattle.std.proofs.lemmas.Bool.Decides.{nat_tests}
 use Rattle.csv.specs.Machine.{step}
@@ -81,22 +80,8 @@ plain_step state.AfterQuote byte other plain = cc plain
 plain_step state.InEscape byte other plain = cc plain
 plain_step state.InComment byte other plain = cc plain
 
--- without quotes, no quoted field opens
-stays_plain : (s : State) (text : List ℕ) (at : ℕ) → list_any (λ byte. nat_eq byte quote) text ≡ false → is_plain s ≡ true → is_plain (state_after s (take at text)) ≡ true
-unfolding state_after
-stays_plain s [] zero none plain = plain
-stays_plain s [] (suc at) none plain = plain
-stays_plain s (byte ∷ rest) zero none plain = plain
-stays_plain s (byte ∷ rest) (suc at) none plain =
-    let other : byte ≢ quote = grind (arith, nat_tests, none) in
-    let later : list_any (λ b. nat_eq b quote) rest ≡ false = grind (arith, nat_tests, none) in
-    stays_plain (step default_config s byte).0 rest at later (plain_step s byte other plain)
-
 pub plain_not_quoted : (s : State) → is_plain s ≡ true → s ≢ state.InQuoted
 plain_not_quoted s plain is = cc (sym plain ∙ ap is_plain is)
-
-pub without_quotes : (text : List ℕ) (at : ℕ) → list_any (λ byte. nat_eq byte quote) text ≡ false → state_at text at ≢ state.InQuoted
-without_quotes text at none = plain_not_quoted (state_at text at) (stays_plain state.StartRecord text at none refl)
 
 -- where no quoted field is open, the place after a byte that is no quote depends on this byte alone
 plain_place : (s : State) (byte : ℕ) → byte ≢ quote → is_plain s ≡ true → place_of (step default_config s byte).0 ≡ Some (place_after byte)

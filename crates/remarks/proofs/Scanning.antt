@@ -1,14 +1,14 @@
 -- A search for quoted fields that reads one more byte, and its end.
-use Rattle.std.proofs.Common.{◌≡◌, ◌≢◌, ◌<◌, ◌≤◌, ◌⊎◌, ◌+◌, ◌-◌, ℕ, true, false, List, Option, None, Some, MatchOption, unwrap_or, length, ap, sym, subst, inl, inr, ◌∙◌, arith}
+use Rattle.std.proofs.Common.{◌≡◌, ◌≢◌, ◌<◌, ◌≤◌, ◌⊎◌, ◌+◌, ◌-◌, ℕ, true, false, List, Option, None, Some, MatchOption, unwrap_or, drop, get_or, length, ap, sym, subst, inl, inr, ◌∙◌, arith}
 use native.Mathlib.Decide.{dec_lt}
 use Rattle.std.proofs.lemmas.Bool.{false≢true}
 use Rattle.std.proofs.lemmas.Bool.Decides.{nat_tests}
-use Rattle.std.proofs.lemmas.List.{take_all}
-use Rattle.csv.specs.declared.parser.State.TheVariants as state
+use Rattle.std.proofs.lemmas.List.{get_or-drop}
+use Rattle.memchr.specs.Find.{Nowhere, Passes, is_byte}
 use Rattle.remarks.specs.declared.scan.Place.{Place}
 use Rattle.remarks.specs.declared.scan.Place.TheVariants.{FieldStart, Quoted}
 use Rattle.remarks.specs.declared.scan.Scan.{Scan}
-use Rattle.remarks.specs.Quotes.{BreaksField, EndsLine, IsFirstBroken, OpensField, OpensLast, byte_at, quote, state_after, state_at}
+use Rattle.remarks.specs.Quotes.{BreaksField, EndsLine, IsFirstBroken, OpensField, OpensLast, byte_at, quote, state_at}
 use Rattle.remarks.specs.Scans.{IsScanned, IsUnbroken, is_in_quotes, place_after, place_of}
 use Rattle.remarks.proofs.Places.{begins_at, is_plain, place_at_start, place_in_quotes, place_past, plain_after, plain_at, plain_not_quoted, quoted_at}
 
@@ -129,9 +129,9 @@ scanned_past text from end old new some within none outside known stands first =
       broken = broken_past text from end old.first_long new.first_long first (unbroken_past text from end within none plain) known.broken;
     }
 
-whole : (text : List ℕ) → state_at text (length text) ≡ state_after state.StartRecord text
-whole text = ap (state_after state.StartRecord) (take_all (length text) text (omega arith))
-
--- a text without quotes
-pub without_quote_closed : (text : List ℕ) → ((at : ℕ) → state_at text at ≢ state.InQuoted) → state_after state.StartRecord text ≢ state.InQuoted
-without_quote_closed text never is = never (length text) (whole text ∙ is)
+-- no byte of a text is a quote that a search from an index on has passed
+pub no_quote_passed : (text : List ℕ) (from passed : ℕ) → Nowhere (Passes (is_byte quote) (drop from text)) 0 passed → (at : ℕ) → from ≤ at → at < from + passed → byte_at text at ≢ quote
+no_quote_passed text from passed none at least most is =
+    let there : from + (at - from) ≡ at = omega (arith, least) in
+    let here : get_or (drop from text) (at - from) 0 ≡ quote = get_or-drop from text (at - from) 0 ∙ ap (λ n. get_or text n 0) there ∙ is in
+    none (at - from) (omega arith) (omega (arith, least, most)) (ap (is_byte quote) here)

@@ -8,6 +8,8 @@ ghost use Rattle.csv.specs.declared.parser.State.TheVariants.{InQuoted, StartRec
 ghost use Rattle.remarks.specs.Quotes.{BreaksField, EndsLine, IsFirstBroken, IsOpenAt, byte_at, quote, state_after};
 ghost use Rattle.remarks.specs.Scans.{IsScanned, is_in_quotes, place_after, place_of};
 
+use memchr::memchr;
+
 /// The place of a reader in a record.
 #[derive(Clone, Copy, PartialEq, Eq)]
 enum Place {
@@ -104,12 +106,10 @@ fn next_quote(text: &[u8], from: usize) -> usize
     ensures most { result ≤ length text.now }
     ensures none { (at : ℕ) → from ≤ at → at < result → byte_at text.now at ≢ quote }
 {
-    for at in from..text.len() {
-        if text[at] == b'"' {
-            return at;
-        }
+    match memchr(b'"', &text[from..]) {
+        Some(passed) => from + passed,
+        None => text.len(),
     }
-    text.len()
 }
 
 fn is_line_end(byte: u8) -> bool
@@ -136,14 +136,6 @@ pub fn quotes_of(text: &[u8]) -> Quotes
     ensures broken { IfSome result.first_long (IsFirstBroken text.now) }
     ensures unbroken { IfNone result.first_long ((at : ℕ) → ¬ BreaksField text.now at) }
 {
-    // Most files have no quotes.
-    if !text.contains(&b'"') {
-        return Quotes {
-            unclosed: None,
-            long: 0,
-            first_long: None,
-        };
-    }
     let scan = scan_of(text);
     Quotes {
         unclosed: scan.unclosed_quote(),

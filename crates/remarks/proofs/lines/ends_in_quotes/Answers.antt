@@ -1,4 +1,4 @@
-use Rattle.std.proofs.Common.{refl, true, IsTrue}
+use Rattle.std.proofs.Common.{refl}
 use Rattle.std.proofs.lemmas.Bool.{false≢true}
 use Rattle.remarks.proofs.lines.ends_in_quotes.Goals as goal
 
