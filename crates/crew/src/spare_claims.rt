@@ -8,8 +8,8 @@ use std::alloc::Global;
 use std::mem::replace;
 use std::sync::{Mutex, Wait};
 
-/// The maximum number of lists that are kept: those of several turns of a few workers.
-const LISTS_LIMIT: usize = 16;
+/// The maximum number of lists that are kept: those of the turns in which the claims that are read ahead are decided.
+const LISTS_LIMIT: usize = 64;
 
 /// Lists of the boxes of decided claims. Which boxes they are has no effect on a result.
 pub(crate) struct SpareClaims {
