@@ -2,7 +2,7 @@
 use Rattle.std.proofs.Common.{◌≡◌, ◌<◌, ◌≤◌, ◌+◌, ◌-◌, ℕ, suc, Result, Ok, Err, List, [], ◌∷◌, ◌++◌, length, length-take-le, map, take, drop, get_or, ap, ap₂, sym, subst, ◌∙◌, refl, append_assoc, append-nil, take-append-drop, drop-cons, arith}
 use Rattle.std.specs.List.{AllZip}
 use Rattle.std.proofs.lemmas.Grind.{flat_map-append}
-use Rattle.std.proofs.lemmas.List.{take_all, take_more}
+use Rattle.std.proofs.lemmas.List.{take-take, take_all, take_more}
 use Rattle.std.proofs.lemmas.Slice.Zip.{AllZip-long, all_zipped_more}
 use Rattle.tables.specs.declared.table.InputData.{InputData}
 use Rattle.intake_csv.specs.Laws.{LieApart, StartHasTheRows}
@@ -196,13 +196,6 @@ files-refused decided names texts place old new newer fault within so_far writes
       writes-then old new newer (files_text decided 1 so_far.files) (rows_text decided (place + 1) writes.0) tt (Err fault) so_far.writes writes.2,
     )
 
--- all files are written
-pub files-done : (decided : Deciding) (names : List InputData) (texts : List (List ℕ)) (place : ℕ) (old new : At) → length texts ≤ place
-    → FilesSoFar decided names texts place old new → WritesFiles decided names texts old new (Ok tt)
-files-done decided names texts place old new past so_far =
-    let all = take_all place texts past in
-    (so_far.files, subst (λ ts. AreRead names ts so_far.files) all so_far.read, so_far.writes)
-
 -- files are written, and then the next file is, or the writing ends within it
 files-then : (decided : Deciding) (names : List InputData) (texts : List (List ℕ)) (place : ℕ) (a b c : At) (result : Result (Unit {0}) WriteFault)
     → place < length texts → WritesFiles decided names (take place texts) a b (Ok tt)
@@ -221,11 +214,6 @@ files-then decided names texts place a b c (Err fault) within before file =
           (subst (λ ts. AllZip (AreRowsOf names) ts all) more are))),
       writes-then a b c (files_text decided 1 before.0) (rows_text decided (place + 1) file.0) tt (Err fault) before.2 file.2,
     )
-
--- the first file is written, or the writing ends within it
-pub first-written : (decided : Deciding) (names : List InputData) (texts : List (List ℕ)) (a b : At) (result : Result (Unit {0}) WriteFault) → 1 ≤ length texts
-    → WritesFile decided 1 names (get_or texts (1 - 1) []) a b result → WritesFiles decided names (take 1 texts) a b result
-first-written decided names texts a b result some file = files-then decided names texts 0 a a b result some ([], none-read names, writes-none a) file
 
 -- the files before a provider's are written, and then its file is, or the writing ends within it
 pub next-written : (decided : Deciding) (names : List InputData) (texts : List (List ℕ)) (provider : ℕ) (a b c : At) (result : Result (Unit {0}) WriteFault)
@@ -250,18 +238,18 @@ begin-in-front decided names xs ys text all parts begins =
           ∙ append_assoc text begin.rest others;
     }
 
--- a fault within the files before a provider's is a fault within these files and its own
-pub refused-in-front : (decided : Deciding) (names : List InputData) (texts : List (List ℕ)) (provider : ℕ) (a b : At) (fault : WriteFault)
-    → 1 ≤ provider → provider ≤ length texts → WritesFiles decided names (take (provider - 1) texts) a b (Err fault) → WritesFiles decided names (take provider texts) a b (Err fault)
-refused-in-front decided names texts provider a b fault least most writes =
-    let front = take (provider - 1) texts in
-    let last = get_or texts (provider - 1) [] in
-    let same : (provider - 1) + 1 ≡ provider = omega (arith, least) in
-    let more = subst (λ n. take n texts ≡ front ++ last ∷ []) same (take_more texts (provider - 1) [] (omega (arith, least, most))) in (
+-- a fault within the first files is a fault within these files and more
+pub refused-before : (decided : Deciding) (names : List InputData) (texts : List (List ℕ)) (count upto : ℕ) (a b : At) (fault : WriteFault)
+    → count ≤ upto → WritesFiles decided names (take count texts) a b (Err fault) → WritesFiles decided names (take upto texts) a b (Err fault)
+refused-before decided names texts count upto a b fault most writes =
+    let front = take count texts in
+    let following = drop count (take upto texts) in
+    let more : take upto texts ≡ front ++ following =
+    sym (take-append-drop count (take upto texts)) ∙ ap (λ ts. ts ++ following) (take-take count upto texts most) in (
       writes.0,
       (λ all are.
-          begin-in-front decided names front (last ∷ []) writes.0 all
-          (parted (AreRowsOf names) front (last ∷ []) all (subst (λ ts. AllZip (AreRowsOf names) ts all) more are)) writes.1),
+          begin-in-front decided names front following writes.0 all
+          (parted (AreRowsOf names) front following all (subst (λ ts. AllZip (AreRowsOf names) ts all) more are)) writes.1),
       writes.2,
     )
 

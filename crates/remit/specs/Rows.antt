@@ -98,3 +98,7 @@ WritesFiles decided names texts old new (Ok done) = (files : List (List Row)) ×
 WritesFiles decided names texts old new (Err fault) =
     (front : List ℕ) × ((all : List (List Row)) → AllZip (AreRowsOf names) texts all → Begin front (files_text decided 1 all))
     × Writes old new front (Err fault)
+
+-- if the first `from` files are written, the first `upto` files are; or a beginning of their text is, before the writing ends with a fault
+pub record WritesOn (decided : Deciding) (names : List InputData) (texts : List (List ℕ)) (from upto : ℕ) (old new : At) (result : Result (Unit {0}) WriteFault) : Type 0 where
+  pub on : (start : At) → WritesFiles decided names (take from texts) start old (Ok tt) → WritesFiles decided names (take upto texts) start new result

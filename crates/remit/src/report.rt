@@ -62,16 +62,18 @@ pub fn write_report<W: Write>(
     write_by(&InTurn, alloc, terms, batch, out)
 }
 
-/// Writes the remittance of a finished run, with one more thread for each file after the first. If
-/// the first file is long and has nearly all claims, and if there are several processors, two more
+/// Writes the remittance of a finished run, one group of consecutive files after another, with one
+/// more thread for each file of a group after the first. A group ends when it has 65,536 claims and
+/// four times as many as its longest file, or with the last file. If the first file of a group is
+/// long and has nearly all claims of the group, and if there are several processors, two more
 /// threads help with it.
 ///
-/// The caller's thread writes the records of the first file in pieces, while for each other file a
-/// thread renders its section into memory. The caller's thread then writes the sections in the
-/// order of the files. The first file is cut into three sections where more threads help with it.
-/// If a section is much longer than its file, as with long remarks, or if memory runs out for it,
-/// the section is dropped, and the caller's thread writes its records in pieces when their turn
-/// comes.
+/// The caller's thread writes the records of the first file in pieces, while for each other file of
+/// the group a thread renders its section into memory. The caller's thread then writes the sections
+/// in the order of the files. The first file is cut into three sections where more threads help
+/// with it. If a section is much longer than its file, as with long remarks, or if memory runs out
+/// for it, the section is dropped, and the caller's thread writes its records in pieces when their
+/// turn comes.
 ///
 /// The bytes and the errors are those of `write_report`.
 pub fn write_report_by_threads<R: Threads + Sync, W: Write>(
