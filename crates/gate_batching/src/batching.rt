@@ -172,8 +172,7 @@ impl GateBatching {
     }
 
     // Lets a thread that was woken obtain the turn. An intake thread that has given the turn back would
-    // take it again before that thread is scheduled, turn after turn, and the workers would stand idle
-    // until it is far ahead.
+    // take it again before that thread is scheduled, and the workers would wait until it is far ahead.
     fn let_sleeper_in(&self) {
         let backoff = Backoff::new();
         for _ in 0..SLEEPER_LOOKS {
