@@ -8,6 +8,7 @@ use intake_csv::{
 };
 use std::alloc::{AllocError, Global};
 use std::collections::VecDeque;
+use std::mem::replace;
 
 /// The reader of a provider's file.
 pub(crate) struct FileReader<'t> {
@@ -69,11 +70,16 @@ impl<'t> FileReader<'t> {
         Ok(reader)
     }
 
-    /// Takes lists of boxes until there are enough for the claims to be read ahead.
-    pub(crate) fn add_spare(&mut self, lists: &mut Vec<Vec<BoxedClaim>>)
+    /// Takes lists of boxes until there are enough for the claims to be read ahead. A reader that has read
+    /// its last claim gives its boxes to the others.
+    pub(crate) fn add_spare(&mut self, alloc: Global, lists: &mut Vec<Vec<BoxedClaim>>)
         ensures { self.new ≡ record self.old { spare = self.new.spare } }
     {
-        refill(&mut self.spare, self.wanted, lists);
+        if !self.is_over {
+            refill(&mut self.spare, self.wanted, lists);
+        } else if !self.spare.is_empty() {
+            let _ = lists.push(replace(&mut self.spare, Vec::new(alloc)));
+        }
     }
 
     /// Reads claims until `limit` claims are read and not taken yet, or no claim is left. If memory

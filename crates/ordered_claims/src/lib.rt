@@ -15,6 +15,7 @@
 mod file_queue;
 mod file_reader;
 mod heads;
+mod limits;
 mod next_claim;
 mod queues;
 mod reader;

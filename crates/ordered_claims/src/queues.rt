@@ -6,27 +6,12 @@ ghost use Rattle.ordered_claims.specs.Kept.{AreStocked, IsQueued, IsReading, Mov
 use crate::file_queue::FileQueue;
 use crate::file_reader::FileReader;
 use crate::heads::{claims_before_others, first_head};
+use crate::limits::claims_limit;
 use crate::next_claim::NextClaim;
 use crate::readers::ClaimReaders;
 use claim_gate::{BoxedClaim, Offer, Terms};
-use journal::Order;
 use std::alloc::{AllocError, Global};
 use std::marker::Model;
-
-/// The maximum number of claims of a file in memory, or more where files are given one after another.
-const CLAIMS_LIMIT: usize = 8_192;
-
-/// By day of service, the maximum number of claims of all files in memory, unless there are very many
-/// files.
-const CLAIMS_LIMIT_IN_ALL: usize = 32_768;
-
-/// The least limit of a file. It takes far longer to read 1,024 claims than to start a thread.
-const LEAST_CLAIMS_LIMIT: usize = 1_024;
-
-/// Where files are given one after another, a claim in memory for as many bytes of the file. One reader
-/// alone is slower than the run, so that claims of later files are read while earlier ones are given.
-/// The memory for them is small beside that of the run.
-const BYTES_A_CLAIM_AHEAD: usize = 512;
 
 /// The claims of all files that are read and not given yet. It gives them in the order of the terms,
 /// up to the first claim that may follow one that is not read.
@@ -158,29 +143,11 @@ fn take_each(
         if readers[index].has_failed {
             return Err(AllocError);
         }
-        let limit = claims_limit(terms, index);
+        let limit = claims_limit(terms, readers.as_slice(), index);
         let stocked = queues[index].take_from(&mut readers[index], limit)?;
         if !stocked {
             all = false;
         }
     }
     Ok(all)
-}
-
-// Returns the maximum number of claims of the file at an index in memory.
-fn claims_limit(terms: &Terms, index: usize) -> usize {
-    let Order::Files = terms.order() else {
-        return equal_limit(terms.files().len());
-    };
-    let bytes = match terms.files().get(index) {
-        Some(text) => text.len(),
-        None => 0,
-    };
-    CLAIMS_LIMIT.max(bytes / BYTES_A_CLAIM_AHEAD)
-}
-
-// Returns the maximum number of claims of a file in memory where all files are read at the same time.
-fn equal_limit(files: usize) -> usize {
-    let share = CLAIMS_LIMIT_IN_ALL / files.max(1);
-    share.max(LEAST_CLAIMS_LIMIT).min(CLAIMS_LIMIT)
 }

@@ -79,7 +79,7 @@ impl<'t> ClaimReaders<'t> {
         ensures taken { self.new.taken ≡ self.old.taken }
     {
         'files: for index in 0..self.files.len() {
-            self.files[index].add_spare(lists);
+            self.files[index].add_spare(self.alloc, lists);
         }
     }
 

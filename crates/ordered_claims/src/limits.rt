@@ -1,0 +1,87 @@
+//! How many claims of each file are in memory before they are given. No contract knows it: a wrong number
+//! costs time or memory alone.
+
+use crate::file_reader::FileReader;
+use claim_gate::Terms;
+use journal::Order;
+
+/// The maximum number of claims of a file in memory, or more where files are given one after another.
+const CLAIMS_LIMIT: usize = 8_192;
+
+/// By day of service, the maximum number of claims of all files in memory. Each file has a share of it
+/// by its length, since long files are given faster than short ones.
+const CLAIMS_LIMIT_IN_ALL: usize = 32_768;
+
+/// By day of service, the least share of a file. To read 256 claims takes longer than to start a thread.
+const LEAST_SHARE: usize = 256;
+
+/// Where files are given one after another, a claim in memory for as many bytes of the file. One reader
+/// alone is slower than the run, so claims of later files are read while earlier ones are given.
+const BYTES_A_CLAIM_AHEAD: usize = 512;
+
+/// Where files are given one after another, the least and the greatest number of claims in memory before
+/// no further file is read ahead. There are more claims by at most the last of these files.
+const LEAST_CLAIMS_AHEAD: usize = 32_768;
+
+const CLAIMS_AHEAD_LIMIT: usize = 131_072;
+
+/// The number of bytes of a short record.
+const BYTES_A_RECORD: usize = 64;
+
+/// Returns the maximum number of claims of the file at an index in memory.
+pub(crate) fn claims_limit(terms: &Terms, readers: &[FileReader<'_>], index: usize) -> usize {
+    let bytes = bytes_of(terms, index);
+    let Order::Files = terms.order() else {
+        return share_of(bytes, bytes_of_all(terms));
+    };
+    if claims_before(terms, readers, index) < claims_ahead(bytes_of_all(terms)) {
+        limit_of_file(bytes)
+    } else {
+        1
+    }
+}
+
+// Returns the share of a file by its length.
+fn share_of(bytes: usize, bytes_of_all: usize) -> usize {
+    let share = CLAIMS_LIMIT_IN_ALL.saturating_mul(bytes) / bytes_of_all.max(1);
+    share.max(LEAST_SHARE).min(CLAIMS_LIMIT)
+}
+
+// Returns the number of claims in memory before no further file is read ahead.
+fn claims_ahead(bytes_of_all: usize) -> usize {
+    (bytes_of_all / BYTES_A_CLAIM_AHEAD)
+        .max(LEAST_CLAIMS_AHEAD)
+        .min(CLAIMS_AHEAD_LIMIT)
+}
+
+// Returns the limit of a file that is read ahead where files are given one after another.
+fn limit_of_file(bytes: usize) -> usize {
+    CLAIMS_LIMIT.max(bytes / BYTES_A_CLAIM_AHEAD)
+}
+
+// Returns about how many claims the files before an index have in memory if they reach their limits.
+fn claims_before(terms: &Terms, readers: &[FileReader<'_>], index: usize) -> usize {
+    let mut claims = 0_usize;
+    for earlier in 0..index.min(readers.len()) {
+        if !readers[earlier].is_over {
+            let bytes = bytes_of(terms, earlier);
+            claims = claims.saturating_add(limit_of_file(bytes).min(bytes / BYTES_A_RECORD));
+        }
+    }
+    claims
+}
+
+fn bytes_of_all(terms: &Terms) -> usize {
+    let mut bytes = 0_usize;
+    for file in terms.files() {
+        bytes = bytes.saturating_add(file.len());
+    }
+    bytes
+}
+
+fn bytes_of(terms: &Terms, index: usize) -> usize {
+    match terms.files().get(index) {
+        Some(file) => file.len(),
+        None => 0,
+    }
+}
