@@ -19,10 +19,11 @@ const LEAST_SHARE: usize = 256;
 /// alone is slower than the run, so claims of later files are read while earlier ones are given.
 const BYTES_A_CLAIM_AHEAD: usize = 512;
 
-/// Where files are given one after another, the least and the greatest number of claims in memory before
-/// no further file is read ahead. There are more claims by at most the last of these files.
+/// Where files are given one after another, the least number of claims in memory before no further file
+/// is read ahead. There may be more by the claims of one file.
 const LEAST_CLAIMS_AHEAD: usize = 32_768;
 
+/// The greatest number of claims in memory before no further file is read ahead.
 const CLAIMS_AHEAD_LIMIT: usize = 131_072;
 
 /// The number of bytes of a short record.
