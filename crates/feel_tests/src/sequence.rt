@@ -90,6 +90,20 @@ impl<T: Drop> Sequence<T> {
         Ok(())
     }
 
+    /// Removes all items, and keeps their memory for others.
+    pub fn clear(&mut self)
+        ensures { self.new ≡ [] }
+    {
+        self.items.clear();
+    }
+
+    /// Makes room for this many more items.
+    pub fn reserve(&mut self, room: usize) -> Result<(), AllocError>
+        ensures { self.new ≡ self.old }
+    {
+        self.items.reserve(room)
+    }
+
     /// Inserts an item at an index, before the item that is there.
     pub fn insert(&mut self, place: usize, item: T) -> Result<(), AllocError>
         requires { place ≤ length self.old }
