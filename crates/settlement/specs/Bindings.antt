@@ -33,10 +33,12 @@ after_family (Some family) values = Text family ∷ values
 abbrev pub values_given : Claim → Acc → List Value
 values_given claim acc = Text claim.id ∷ after_family claim.family (values_from_member claim acc)
 
--- the value that is borrowed
+-- the value of a name, which may be borrowed
 abbrev pub value_bound : BoundValue → Value
 value_bound (borrowed.Text text) = Text text.now
-value_bound (borrowed.Other value) = value
+value_bound (borrowed.Field value) = value.now
+value_bound (borrowed.Amount number) = Number number
+value_bound (borrowed.Day day) = Day day
 
 -- a slot with its value
 abbrev pub slot_of : Value → Slot

@@ -9,7 +9,7 @@ ghost use Rattle.settlement.specs.Reads.{any_role_reads, is_read, limits_read, p
 
 use crate::acc::Acc;
 use crate::claim::Claim;
-use feel_tests::{Text, Value};
+use feel_tests::{Day, Text, Value};
 use fixpoint::Fixed;
 use std::alloc::{AllocError, Global};
 use tables::{FamilyRoles, Inputs, Plan, Roles, Sequence, Source};
@@ -116,6 +116,7 @@ pub fn bind_inputs(
 }
 
 // Sets one place to its value. A text reuses the memory of an earlier text.
+#[inline(always)]
 fn bind_input(
     alloc: Global,
     inputs: &mut Inputs,
@@ -132,19 +133,25 @@ fn bind_input(
 {
     match bound_value(claim, acc, place) {
         BoundValue::Text(text) => inputs.set_text(alloc, place, text)?,
-        BoundValue::Other(value) => inputs.set(place, value),
+        BoundValue::Field(value) => inputs.set_copy(alloc, place, value)?,
+        BoundValue::Amount(number) => inputs.set_number(place, number),
+        BoundValue::Day(day) => inputs.set(place, Value::Day(day)),
     }
     Ok(())
 }
 
-/// A value of a claim. A text is borrowed from the claim.
+/// A value of a claim or of the accumulators. A text and a field are borrowed from the claim, and
+/// are copied only into their slot.
 #[derive(Drop)]
 enum BoundValue<'c> {
     Text(&'c Text),
-    Other(Value),
+    Field(&'c Value),
+    Amount(Fixed),
+    Day(Day),
 }
 
 // Returns the value of the name at a place, from 0.
+#[inline(always)]
 fn bound_value<'c>(claim: &'c Claim, acc: &Acc, place: usize) -> BoundValue<'c>
     requires { place < length (values_given claim.now acc.now) }
     ensures { slice_get (values_given claim.now acc.now) place ≡ Some (value_bound result) }
@@ -156,6 +163,7 @@ fn bound_value<'c>(claim: &'c Claim, acc: &Acc, place: usize) -> BoundValue<'c>
 }
 
 // The place is relative to the name after the claim's identifier.
+#[inline(always)]
 fn bound_after_id<'c>(claim: &'c Claim, acc: &Acc, place: usize) -> BoundValue<'c>
     requires { place < length
         (after_family claim.now.family (values_from_member claim.now acc.now)) }
@@ -173,41 +181,29 @@ fn bound_after_id<'c>(claim: &'c Claim, acc: &Acc, place: usize) -> BoundValue<'
 }
 
 // The place is relative to that of the member.
+#[inline(always)]
 fn bound_from_member<'c>(claim: &'c Claim, acc: &Acc, place: usize) -> BoundValue<'c>
     requires { place < length (values_from_member claim.now acc.now) }
     ensures { slice_get (values_from_member claim.now acc.now) place ≡ Some (value_bound result) }
 {
     match place {
         MEMBER => BoundValue::Text(&claim.member),
-        SERVICE => BoundValue::Other(Value::Day(claim.service)),
-        BILLED => BoundValue::Other(Value::Number(claim.billed.amount())),
+        SERVICE => BoundValue::Day(claim.service),
+        BILLED => BoundValue::Amount(claim.billed.amount()),
         _ => bound_after_member(claim, acc, place - FIRST_FIELD),
     }
 }
 
 // The place is relative to that of the first field.
+#[inline(always)]
 fn bound_after_member<'c>(claim: &'c Claim, acc: &Acc, place: usize) -> BoundValue<'c>
     requires { place < length (values_after claim.now acc.now) }
     ensures { slice_get (values_after claim.now acc.now) place ≡ Some (value_bound result) }
 {
     let fields = claim.fields.as_slice();
     match fields.get(place) {
-        Some(value) => borrowed_value(value),
-        None => {
-            let amount = accumulator(claim, acc, place - fields.len());
-            BoundValue::Other(Value::Number(amount))
-        }
-    }
-}
-
-fn borrowed_value(value: &Value) -> BoundValue<'_>
-    ensures { value_bound result ≡ value.now }
-{
-    match value {
-        Value::Text(text) => BoundValue::Text(text),
-        Value::Number(number) => BoundValue::Other(Value::Number(*number)),
-        Value::Flag(flag) => BoundValue::Other(Value::Flag(*flag)),
-        Value::Day(day) => BoundValue::Other(Value::Day(*day)),
+        Some(value) => BoundValue::Field(value),
+        None => BoundValue::Amount(accumulator(claim, acc, place - fields.len())),
     }
 }
 

@@ -8,6 +8,7 @@ ghost use Rattle.tables.specs.Inputs.{empty_slot, empty_slots, fill_slot, kind_a
 
 use crate::plan::Plan;
 use feel_tests::{Kind, Text, Value};
+use fixpoint::Fixed;
 use std::alloc::{AllocError, Global};
 use std::marker::Model;
 
@@ -46,6 +47,20 @@ impl Slot {
         match &mut self.value {
             Some(Value::Text(present)) => present.copy_from(text)?,
             _ => self.value = Some(Value::Text(Text::new(alloc, text.as_str())?)),
+        }
+        Ok(())
+    }
+
+    // Sets the value to a copy of this one. A text reuses the memory of an earlier text.
+    fn set_copy(&mut self, alloc: Global, value: &Value) -> Result<(), AllocError>
+        ensures set { OnOk result (self.new.value ≡ Some value.now) }
+        ensures kind { self.new.kind ≡ self.old.kind }
+    {
+        match value {
+            Value::Text(text) => self.set_text(alloc, text)?,
+            Value::Number(number) => self.value = Some(Value::Number(*number)),
+            Value::Flag(flag) => self.value = Some(Value::Flag(*flag)),
+            Value::Day(day) => self.value = Some(Value::Day(*day)),
         }
         Ok(())
     }
@@ -119,6 +134,24 @@ impl Inputs {
         ensures kinds { map (λ s. s.kind) self.new ≡ map (λ s. s.kind) self.old }
     {
         self.slots[place].set_text(alloc, text)
+    }
+
+    /// Sets the value of the name at an index from 0 to this number. An earlier value is replaced.
+    pub fn set_number(&mut self, place: usize, number: Fixed)
+        requires { Takes self.old place kinds.Number }
+        ensures { self.new ≡ fill_slot self.old place (values.Number number) }
+    {
+        self.slots[place].value = Some(Value::Number(number));
+    }
+
+    /// Sets the value of the name at an index from 0 to a copy of this value. A text reuses the
+    /// memory of an earlier text. If memory runs out, that name has no value afterwards.
+    pub fn set_copy(&mut self, alloc: Global, place: usize, value: &Value) -> Result<(), AllocError>
+        requires { Takes self.old place (kind_of value.now) }
+        ensures set { OnOk result (self.new ≡ fill_slot self.old place value.now) }
+        ensures kinds { map (λ s. s.kind) self.new ≡ map (λ s. s.kind) self.old }
+    {
+        self.slots[place].set_copy(alloc, value)
     }
 
     /// Returns the value of the name at an index from 0, if it is set.

@@ -8,5 +8,5 @@ returns-in-Some c = grind (arith, elements)
 pub returns-in-None : goal.returns-in-None
 returns-in-None c = grind (arith, elements)
 
-pub accumulator-amount-requires : goal.accumulator-amount-requires
-accumulator-amount-requires c = grind (arith, elements)
+pub accumulator-requires : goal.accumulator-requires
+accumulator-requires c = grind (arith, elements)
