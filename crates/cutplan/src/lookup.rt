@@ -15,6 +15,9 @@ use crate::region::{Region, is_among, is_in, is_less};
 use feel_tests::{Text, Value};
 use std::cmp::Ordering;
 
+/// The greatest number of keys that are compared one by one.
+const FEW_KEYS: usize = 16;
+
 /// Returns the index of a region that contains the value, if there is one. The keys of the regions
 /// usually lead to it at once. Otherwise a binary search over the regions, which are in increasing
 /// order, finds it. In both cases the region found is checked before it is returned, so no proof
@@ -38,13 +41,25 @@ pub fn place_of(regions: &[Region], keys: &[u64], value: &Value) -> Option<usize
 #[inline(always)]
 fn suggested_place(keys: &[u64], value: &Value, count: usize) -> usize {
     let key = key_of(value);
-    let place = keys
-        .partition_point(|other| *other <= key)
-        .saturating_sub(1);
+    let place = count_up_to(keys, key).saturating_sub(1);
     match value {
         Value::Text(_) if keys.get(place) != Some(&key) => count.saturating_sub(1),
         _ => place,
     }
+}
+
+// Returns the number of keys up to this one. To compare a few keys one by one takes no jump that the
+// processor could predict wrongly.
+#[inline(always)]
+fn count_up_to(keys: &[u64], key: u64) -> usize {
+    if keys.len() > FEW_KEYS {
+        return keys.partition_point(|other| *other <= key);
+    }
+    let mut count = 0_usize;
+    for other in keys {
+        count = count.wrapping_add(usize::from(*other <= key));
+    }
+    count
 }
 
 // Returns the region that a binary search finds, for a value with a key that does not lead to its
