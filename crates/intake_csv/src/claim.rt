@@ -14,7 +14,7 @@ use crate::csv_record::CsvRecord;
 use crate::validation::first_fault;
 use faults::names::{BILLED, CLAIM, FAMILY, MEMBER, SERVICE};
 use faults::{RowCause, RowFault};
-use feel_tests::{Kind, Text};
+use feel_tests::{Kind, Text, Value};
 use settlement::{Claim, fields_of};
 use std::alloc::{AllocError, Global};
 use tables::{InputData, Plan, Sequence};
@@ -75,12 +75,14 @@ fn push_fields(
 }
 
 /// Reads a record of a claim file, and returns its claim or its first fault. A record without a
-/// claim is validated once more, to find the leftmost fault.
+/// claim is validated once more, to find the leftmost fault. The claim's fields take the memory of
+/// `spare`, whose items are dropped.
 pub fn read_claim(
     alloc: Global,
     families: bool,
     layout: &Layout,
     row: &CsvRecord,
+    spare: Sequence<Value>,
 ) -> Result<Result<Claim, RowFault>, AllocError>
     requires within { IsWithin layout.now }
     requires claims { IsClaimLayout families layout.now }
@@ -94,7 +96,7 @@ pub fn read_claim(
             cause: RowCause::FieldCount,
         }));
     }
-    if let Some(claim) = claim_of_record(alloc, families, layout, row)? {
+    if let Some(claim) = claim_of_record(alloc, families, layout, row, spare)? {
         return Ok(Ok(claim));
     }
     match first_fault(alloc, layout.columns.as_slice(), row)? {
@@ -109,6 +111,7 @@ fn claim_of_record(
     families: bool,
     layout: &Layout,
     row: &CsvRecord,
+    spare: Sequence<Value>,
 ) -> Result<Option<Claim>, AllocError>
     requires within { All (λ c. c.place < length row.now) layout.now.columns }
     requires claims { IsClaimLayout families layout.now }
@@ -124,7 +127,7 @@ fn claim_of_record(
         return Ok(None);
     };
     if !families {
-        return claim_after_id(alloc, id, None, following, row);
+        return claim_after_id(alloc, id, None, following, row, spare);
     }
     let [family, following @ ..] = following else {
         unreachable!();
@@ -132,7 +135,7 @@ fn claim_of_record(
     let Some(family) = text_of_column(alloc, *family, row)? else {
         return Ok(None);
     };
-    claim_after_id(alloc, id, Some(family), following, row)
+    claim_after_id(alloc, id, Some(family), following, row, spare)
 }
 
 // Returns the claim with this identifier and family. The columns are those from the member onwards.
@@ -142,6 +145,7 @@ fn claim_after_id(
     family: Option<Text>,
     columns: &[Column],
     row: &CsvRecord,
+    spare: Sequence<Value>,
 ) -> Result<Option<Claim>, AllocError>
     requires within { All (λ c. c.place < length row.now) columns.now }
     requires columns { AreFromMember columns.now }
@@ -160,7 +164,7 @@ fn claim_after_id(
     let Some(billed) = money_of_column(*billed, row) else {
         return Ok(None);
     };
-    let Some(fields) = values_of_columns(alloc, fields, row)? else {
+    let Some(fields) = values_of_columns(alloc, fields, row, spare)? else {
         return Ok(None);
     };
     Ok(Some(Claim {

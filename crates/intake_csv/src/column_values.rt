@@ -120,18 +120,21 @@ pub fn day_of_column(
 }
 
 /// Returns the values of these columns, in the order of the columns, or `None` if a field is
-/// refused.
+/// refused. The list takes the memory of `spare`, whose items are dropped.
 pub fn values_of_columns(
     alloc: Global,
     columns: &[Column],
     row: &CsvRecord,
+    spare: Sequence<Value>,
 ) -> Result<Option<Sequence<Value>>, AllocError>
     requires within { All (λ c. c.place < length row.now) columns.now }
     requires plain { All IsPlain columns.now }
     ensures values { IfOk result (λ read. IfSome read (AreValues row.now columns.now)) }
     ensures none { IfOk result (λ read. IfNone read (Any (IsRefusedUnder row.now) columns.now)) }
 {
-    let mut values = Sequence::with_capacity(alloc, columns.len())?;
+    let mut values = spare;
+    values.clear();
+    values.reserve(columns.len())?;
     for column in columns {
         let Some(value) = value_of_column(alloc, *column, row)? else {
             return Ok(None);

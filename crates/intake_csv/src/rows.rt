@@ -15,9 +15,11 @@ use crate::records::Records;
 use crate::row_summary::RowSummary;
 use crate::validation::validate_claim;
 use faults::RowFault;
+use feel_tests::Value;
 use settlement::Claim;
 use std::alloc::{AllocError, Global};
 use std::marker::Model;
+use tables::Sequence;
 
 /// A record of a claim file.
 #[derive(Drop)]
@@ -128,13 +130,27 @@ impl<'t> Rows<'t> {
         ensures refused { OnErr result (self.new ≡ record self.old { stage = Failed }) }
         ensures failed { self.old.stage ≡ Failed → is_err result ≡ true }
     {
+        let spare = Sequence::new(self.alloc);
+        self.next_in_spare(spare)
+    }
+
+    /// Reads the next row as `next` does. A claim's fields take the memory of `spare`, whose items
+    /// are dropped.
+    pub fn next_in_spare(&mut self, spare: Sequence<Value>) -> Result<Option<Row>, AllocError>
+        ensures gives { IfOk result (Gives self.old self.new) }
+        ensures head { IfOk result (IsHead self.old self.new) }
+        ensures over { self.old.stage ≡ Over → result ≡ Ok None }
+        ensures refused { OnErr result (self.new ≡ record self.old { stage = Failed }) }
+        ensures failed { self.old.stage ≡ Failed → is_err result ≡ true }
+    {
         match self.current.read(&mut self.records) {
             Ok(true) => {}
             Ok(false) => return Ok(None),
             Err(AllocError) => return Err(AllocError),
         }
         let number = self.next;
-        match read_claim(self.alloc, self.families, &self.layout, &self.current) {
+        let line = &self.current;
+        match read_claim(self.alloc, self.families, &self.layout, line, spare) {
             Ok(Ok(claim)) => {
                 let place = self.claims;
                 self.next += 1;

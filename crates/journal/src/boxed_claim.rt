@@ -1,9 +1,11 @@
 //! A claim in a box.
 ghost use Rattle.std.specs.Prelude.{◌≡◌, IfOk, IfErr};
 
+use feel_tests::{Sequence, Value};
 use settlement::Claim;
 use std::alloc::{AllocFailed, Global};
 use std::marker::Model;
+use std::mem::replace;
 
 /// A claim on the heap. It passes through a gate as one pointer, and the slot of a decided claim
 /// takes little memory. Contracts see the claim.
@@ -48,6 +50,15 @@ impl BoxedClaim {
         };
         *stored.claim = claim;
         Ok(stored)
+    }
+
+    /// Takes the memory of the fields of the box that `in_spare` fills next. Its content has no
+    /// meaning. Without a spare box, the list has no memory.
+    pub fn spare_fields(alloc: Global, spare: &mut Vec<BoxedClaim>) -> Sequence<Value> {
+        match spare.last_mut() {
+            Some(stored) => replace(&mut stored.claim.fields, Sequence::new(alloc)),
+            None => Sequence::new(alloc),
+        }
     }
 
     /// Returns the claim.

@@ -4,7 +4,7 @@ use Rattle.intake_csv.specs.Records.{is_failed, RecordsLeft}
 use Rattle.intake_csv.proofs.AllRecords.{read-at, records-few}
 use Rattle.intake_csv.proofs.Handing.{gives-row, left_of, rows-head}
 use Rattle.intake_csv.specs.declared.rows.Row.TheVariants.{Good, Bad}
-use Rattle.intake_csv.proofs.rows.Rows.next.Goals as goal
+use Rattle.intake_csv.proofs.rows.Rows.next_in_spare.Goals as goal
 
 pub overflow_add-self : goal.overflow_add-self
 overflow_add-self c =
