@@ -21,6 +21,10 @@ use std::thread::{Threads, available_parallelism, join};
 /// parallel.
 const FETCH_LIMIT: usize = 12;
 
+/// The number of claims from which on other threads read them. To start these threads takes as long as to read some hundred
+/// claims. Where many files are not sorted by day, rounds in which one file is read come by the hundred.
+const CLAIMS_WORTH_THREADS: usize = 1_024;
+
 /// The next step of the acceptor.
 enum AcceptorStep {
     /// It offers the next claim.
@@ -104,7 +108,8 @@ fn reader_count<R: Threads>(rt: &R) -> usize
     }
 }
 
-// Offers the claims that are read, while other threads read more. Where no thread can be started, this one reads afterwards.
+// Offers the claims that are read, while other threads read more. Where few are to be read, this thread reads them before it
+// offers, and where no thread can be started, it reads afterwards.
 fn offer_while_reading<'t, R: Threads + Wait + Sync, G: Gate, F: Fetching<G>>(
     shared: &Shared<R, G>,
     fetching: &F,
@@ -130,6 +135,12 @@ fn offer_while_reading<'t, R: Threads + Wait + Sync, G: Gate, F: Fetching<G>>(
 {
     let rt = shared.rt;
     let signal = ReadingSignal::new(shared.terms.order());
+    if readers.wanted_count() < CLAIMS_WORTH_THREADS {
+        let read = readers.read_ahead(rt, 1);
+        signal.note_done();
+        let onward = offer_turns(shared, fetching, pass, queues, &signal);
+        return (read, onward);
+    }
     let done = &signal;
     let reading = &signal;
     join(

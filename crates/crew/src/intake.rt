@@ -241,7 +241,8 @@ fn read_record(alloc: Global, intake: &mut Intake<'_>) -> Result<Record, AllocEr
 {
     // proof: a reader returns the first of the rows that it has left.
     given_row_has_the_claim();
-    let Some(row) = intake.rows.next()? else {
+    let fields = BoxedClaim::spare_fields(alloc, &mut intake.spare);
+    let Some(row) = intake.rows.next_in_spare(fields)? else {
         return Ok(Record::Missing);
     };
     let Row::Good { claim, .. } = row else {

@@ -70,6 +70,14 @@ impl<'t> FileReader<'t> {
         Ok(reader)
     }
 
+    /// Returns the number of claims that are to be read ahead.
+    pub(crate) fn wanted_count(&self) -> usize {
+        if self.is_over {
+            return 0;
+        }
+        self.wanted.saturating_sub(self.ahead.len())
+    }
+
     /// Takes lists of boxes until there are enough for the claims to be read ahead. A reader that has read
     /// its last claim gives its boxes to the others.
     pub(crate) fn add_spare(&mut self, alloc: Global, lists: &mut Vec<Vec<BoxedClaim>>)
@@ -130,7 +138,8 @@ fn read_claim(
     given_row_has_the_claim();
     no_records_give_no_rows();
     'records: loop {
-        let Some(row) = rows.next()? else {
+        let fields = BoxedClaim::spare_fields(alloc, spare);
+        let Some(row) = rows.next_in_spare(fields)? else {
             return Ok(None);
         };
         if let Row::Good { claim, .. } = row {

@@ -8,9 +8,13 @@ use journal::Order;
 /// The maximum number of claims of a file in memory, or more where files are given one after another.
 const CLAIMS_LIMIT: usize = 8_192;
 
-/// By day of service, the maximum number of claims of all files in memory. Each file has a share of it
-/// by its length, since long files are given faster than short ones.
+/// By day of service, the maximum number of claims of all files in memory, or more where the files are
+/// long. Each file has a share of it by its length, since long files are given faster than short ones.
 const CLAIMS_LIMIT_IN_ALL: usize = 32_768;
+
+/// By day of service, a claim in memory for as many bytes of all files. Where many long files are not
+/// sorted, hundreds of claims of one file come in a row, and a short share would end again and again.
+const BYTES_A_CLAIM_IN_ALL: usize = 2_048;
 
 /// By day of service, the least share of a file. To read 256 claims takes longer than to start a thread.
 const LEAST_SHARE: usize = 256;
@@ -23,7 +27,8 @@ const BYTES_A_CLAIM_AHEAD: usize = 512;
 /// is read ahead. There may be more by the claims of one file.
 const LEAST_CLAIMS_AHEAD: usize = 32_768;
 
-/// The greatest number of claims in memory before no further file is read ahead.
+/// The greatest number of claims of all files in memory by day of service, or else before no further file
+/// is read ahead.
 const CLAIMS_AHEAD_LIMIT: usize = 131_072;
 
 /// The number of bytes of a short record.
@@ -44,7 +49,10 @@ pub(crate) fn claims_limit(terms: &Terms, readers: &[FileReader<'_>], index: usi
 
 // Returns the share of a file by its length.
 fn share_of(bytes: usize, bytes_of_all: usize) -> usize {
-    let share = CLAIMS_LIMIT_IN_ALL.saturating_mul(bytes) / bytes_of_all.max(1);
+    let claims = (bytes_of_all / BYTES_A_CLAIM_IN_ALL)
+        .max(CLAIMS_LIMIT_IN_ALL)
+        .min(CLAIMS_AHEAD_LIMIT);
+    let share = claims.saturating_mul(bytes) / bytes_of_all.max(1);
     share.max(LEAST_SHARE).min(CLAIMS_LIMIT)
 }
 

@@ -72,6 +72,15 @@ impl<'t> ClaimReaders<'t> {
         self
     }
 
+    /// Returns the number of claims that `read_ahead` reads at most. It is a hint.
+    pub fn wanted_count(&self) -> usize {
+        let mut count = 0_usize;
+        for file in self.files.as_slice() {
+            count = count.saturating_add(file.wanted_count());
+        }
+        count
+    }
+
     /// Gives the readers boxes of decided claims, which the next claims take. Lists of boxes that no
     /// reader needs remain.
     pub fn reuse(&mut self, lists: &mut Vec<Vec<BoxedClaim>>)
