@@ -1,9 +1,7 @@
 -- The text of closing balances: a file of balances under the plan.
-use Rattle.std.specs.Prelude.{◌≡◌, ℕ, false, List, [], ◌∷◌, ◌++◌, flat_map, map}
-use Rattle.std.specs.Global.{Vec}
+use Rattle.std.specs.Prelude.{◌≡◌, ℕ, List, [], ◌∷◌, ◌++◌, flat_map, map}
 use Rattle.std.specs.List.{AllByRecursion}
-use Rattle.csv.specs.Writing.{default_writer, fields_written, has_written, row_text, writer_pending, writer_setup, writer_under}
-use Rattle.csv.specs.declared.writer.Writer.{Writer}
+use Rattle.csv.specs.Writing.{default_writer, row_text}
 use Rattle.fixpoint.specs.Money.{money_text}
 use Rattle.feel_tests.specs.Calendar.{year_text}
 use Rattle.tables.specs.Plan.{has_families, has_years}
@@ -55,10 +53,3 @@ pub record IsClosingText (parts : TermsParts) (J : List Event) (bytes : List ℕ
   pub are_closing : AreClosing parts J entries
   pub writable : AreWritable parts.plan.version entries
   pub bytes_are : bytes ≡ closing_text parts.plan.version entries
-
--- the writer has rendered this text, and no record is unfinished
-pub record HasRendered (writer : Writer (Vec ℕ)) (text : List ℕ) : Type 0 where
-  pub text_is : (writer_under writer).items ++ writer_pending writer ≡ text
-  pub setup : writer_setup writer ≡ default_writer
-  pub fields : fields_written writer ≡ 0
-  pub clean : has_written writer ≡ false

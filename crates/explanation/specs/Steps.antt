@@ -149,9 +149,13 @@ verdict_text (Pended reason) = codes "pended by " ++ reason_text reason
 abbrev pub without_end : List ℕ → List ℕ
 without_end text = take (length text - 2) text
 
--- the record of the remittance
+-- a record of the remittance by its text
+abbrev pub line_facts : List ℕ → List FactParts
+line_facts text = fact (codes "remittance") (codes "record") (without_end text) ∷ []
+
+-- the record of the remittance with these fields
 abbrev pub record_facts : List (List ℕ) → List FactParts
-record_facts fields = fact (codes "remittance") (codes "record") (without_end (record_text fields)) ∷ []
+record_facts fields = line_facts (record_text fields)
 
 -- the fields of the remittance for a claim
 abbrev pub claim_record : ℕ → ℕ → ℕ → Claim → Option Outcome → List (List ℕ)

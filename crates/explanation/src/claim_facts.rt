@@ -1,6 +1,5 @@
 //! The facts of a record: of a claim that is settled or late, or of a refused record.
 ghost use Rattle.std.specs.Prelude.{◌≡◌, ◌≢◌, ◌≤◌, ◌++◌, Some, length, IfOk, OnOk};
-ghost use Rattle.csv.specs.Records.{fields_of};
 ghost use Rattle.settlement.specs.Claim.{IsClaimOf};
 ghost use Rattle.settlement.specs.Settlement.{outcome};
 ghost use Rattle.journal.specs.Events.{claim_filed};
@@ -9,12 +8,12 @@ ghost use Rattle.claim_gate.specs.Terms.{ForTerms};
 ghost use Rattle.explanation.specs.Cases.{filed_of};
 ghost use Rattle.explanation.specs.Explanation.{IsFactsOf, IsFactsOfClaim, IsPlace, IsRowOf, facts_of_case};
 ghost use Rattle.explanation.specs.Walking.{ClaimsFit};
-ghost use Rattle.explanation.specs.Steps.{computation_facts, decided_facts, late_facts, outcome_facts, record_facts, settled_facts};
+ghost use Rattle.explanation.specs.Steps.{computation_facts, decided_facts, late_facts, outcome_facts, line_facts, settled_facts};
 
 use crate::fact::Facts;
 use crate::family::{Standing, outcome_of};
 use crate::given::inputs_of;
-use crate::record::{fill_claim, record_line};
+use crate::record::claim_record;
 use crate::refusal::facts_of_refused;
 use crate::row::Place;
 use crate::search::{Case, Wanted, find_case};
@@ -23,7 +22,6 @@ use crate::settlement_steps::{
 };
 use crate::table::add_tables;
 use claim_gate::{Terms, claim_lists_exist};
-use csv::ByteRecord;
 use cutplan::{CutPlan, compile};
 use intake_csv::{Row, claims_have_the_plan_s_fields};
 use settlement::{Acc, Adjudicator, Claim, Outcome, after};
@@ -63,16 +61,11 @@ pub(crate) fn facts_of_row(
 }
 
 /// Adds the record of the remittance, without its line end.
-pub(crate) fn add_record(
-    alloc: Global,
-    facts: &mut Facts,
-    line: &ByteRecord,
-) -> Result<(), AllocError>
-    ensures { OnOk result (facts.new ≡ facts.old ++ record_facts (fields_of line.now)) }
+pub(crate) fn add_record(facts: &mut Facts, line: &[u8]) -> Result<(), AllocError>
+    ensures { OnOk result (facts.new ≡ facts.old ++ line_facts line.now) }
 {
-    let text = record_line(alloc, line)?;
-    let end = text.len().saturating_sub(2);
-    facts.add(b"remittance", b"record", &text.as_slice()[..end])
+    let end = line.len().saturating_sub(2);
+    facts.add(b"remittance", b"record", &line[..end])
 }
 
 fn facts_of_claim(
@@ -164,9 +157,8 @@ fn facts_of_late(
     add_place(&mut facts, provider, number)?;
     add_claim(alloc, &mut facts, claim)?;
     facts.add_number(b"this claim", b"late after the cutoff", cutoff as u128)?;
-    let mut line = ByteRecord::new(alloc);
-    fill_claim(alloc, &mut line, version, provider, number, claim, None)?;
-    add_record(alloc, &mut facts, &line)?;
+    let line = claim_record(alloc, version, provider, number, claim, None)?;
+    add_record(&mut facts, line.as_slice())?;
     Ok(facts)
 }
 
@@ -197,11 +189,9 @@ fn facts_of_accepted<'v, 'p>(
     facts.add_number(step, b"position in the order of acceptance", position)?;
     add_before(&mut facts, claim, &acc, last)?;
     add_outcome(alloc, &mut facts, plan, claim, acc, &decided)?;
-    let mut line = ByteRecord::new(alloc);
     let version = plan.version();
-    let outcome = Some(&decided);
-    fill_claim(alloc, &mut line, version, provider, number, claim, outcome)?;
-    add_record(alloc, &mut facts, &line)?;
+    let line = claim_record(alloc, version, provider, number, claim, Some(&decided))?;
+    add_record(&mut facts, line.as_slice())?;
     Ok(facts)
 }
 

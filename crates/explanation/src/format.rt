@@ -3,8 +3,7 @@ ghost use Rattle.std.specs.Prelude.{◌≡◌, ◌++◌, flat_map, IfOk, OnOk};
 ghost use Rattle.explanation.specs.Facts.{fact_line, fact_record, fact_text, facts_text, head_text, shown};
 
 use crate::fact::Fact;
-use crate::record::record_line;
-use csv::ByteRecord;
+use crate::record::record_of;
 use faults::push_printable;
 use std::alloc::{AllocError, Global};
 
@@ -96,10 +95,6 @@ fn append_shown(alloc: Global, text: &mut Vec<u8>, bytes: &[u8]) -> Result<(), A
 fn append_record(alloc: Global, text: &mut Vec<u8>, fact: &Fact) -> Result<(), AllocError>
     ensures { OnOk result (text.new.items ≡ text.old.items ++ fact_record fact.now) }
 {
-    let mut record = ByteRecord::new(alloc);
-    record.push_field(fact.step())?;
-    record.push_field(fact.name())?;
-    record.push_field(fact.value())?;
-    let line = record_line(alloc, &record)?;
+    let line = record_of(alloc, fact.step(), fact.name(), fact.value())?;
     text.extend_from_slice(line.as_slice())
 }

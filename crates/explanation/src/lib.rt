@@ -38,7 +38,6 @@ mod search;
 mod settlement_steps;
 mod shown_field;
 mod table;
-mod words;
 
 pub use claim_gate::Order;
 pub use explaining::{ExplainInput, Explained, do_explain};

@@ -8,13 +8,13 @@ ghost use Rattle.explanation.specs.Steps.{refused_facts};
 use crate::claim_facts::add_record;
 use crate::fact::Facts;
 use crate::file_record::{field_in, record_at};
-use crate::record::fill_refused;
+use crate::record::refused_record;
 use crate::settlement_steps::add_place;
 use crate::shown_field::{escaped_bytes, first_characters};
-use crate::words::fault_text;
 use claim_gate::Terms;
 use csv::ByteRecord;
 use intake_csv::{RowCause, RowFault};
+use remit::fault_text;
 use std::alloc::{AllocError, Global};
 
 const RECORD: &[u8] = b"this record";
@@ -47,9 +47,8 @@ pub(crate) fn facts_of_refused(
     add_refusal(alloc, &mut facts, &header, &fields, fault)?;
     let reason = fault_text(alloc, fault)?;
     facts.add(RECORD, b"refused by", reason.as_bytes())?;
-    let mut line = ByteRecord::new(alloc);
-    fill_refused(alloc, &mut line, version, provider, number, fault)?;
-    add_record(alloc, &mut facts, &line)?;
+    let line = refused_record(alloc, version, provider, number, fault)?;
+    add_record(&mut facts, line.as_slice())?;
     Ok(facts)
 }
 

@@ -7,10 +7,10 @@ ghost use Rattle.explanation.specs.Tables.{answer_facts, answering, facts_of_tab
 
 use crate::fact::Facts;
 use crate::matching::matching;
-use crate::words::reason_text;
 use faults::Reason;
 use feel_tests::{Literals, Sequence, Value, append_joined};
 use itoa::Buffer;
+use remit::reason_text;
 use std::alloc::{AllocError, Global};
 use tables::{
     Answer, Answers, AnswersByTable, Fault, Hit, Input, Inputs, Output, Table, in_priority_order,

@@ -1,14 +1,14 @@
 -- The bytes that a writer has received of a text that is written in pieces.
-use Rattle.std.proofs.Common.{◌≡◌, ◌≢◌, ℕ, Bool, false, [], ◌++◌, List, Option, Result, Ok, Err, IfErr, OnOk, is_err, sym, ap, ap₂, subst, refl, ◌∙◌, append_assoc, append-nil}
+use Rattle.std.proofs.Common.{◌≡◌, ℕ, Bool, false, [], ◌++◌, List, Option, Result, Ok, Err, IfErr, OnOk, is_err, sym, ap, ap₂, subst, refl, ◌∙◌, append_assoc, append-nil}
 use Rattle.std.specs.Global.{Vec}
 use Rattle.std.proofs.lemmas.Bool.{false≢true}
-use Rattle.csv.specs.Writing.{fields_written, has_written, row_text, writer_pending, writer_setup, writer_under}
-use Rattle.csv.specs.declared.writer.QuoteStyle.TheVariants.{NonNumeric}
+use Rattle.csv.specs.Writing.{row_text, writer_pending, writer_under}
 use Rattle.csv.specs.declared.writer.Writer.{Writer}
 use Rattle.fixpoint.specs.BufferedOut.{Puts, Stays, is_cut, starting, unsent_of, written_of, Holds as BufferHolds, at as buffer_at}
 use Rattle.fixpoint.proofs.Buffering.{cut-within, holds-sent, sent-whole}
+use Rattle.remit.specs.Fields.{Ends, HasFields}
 use Rattle.remit.specs.Report.{record_text, report_style}
-use Rattle.remit.specs.RecordWriter.{At, Holds, HasFront, IsCutFault, IsNoMemory, IsReady, Writes, at, gathered_of, rendered_of}
+use Rattle.remit.specs.RecordWriter.{At, Holds, HasFront, HasPushed, IsCutFault, IsNoMemory, IsReady, Writes, at, gathered_of, rendered_of}
 use Rattle.faults.specs.declared.write_fault.WriteFault.{WriteFault}
 use Rattle.remit.specs.declared.record_writer.RecordWriter.{RecordWriter}
 
@@ -136,18 +136,18 @@ writes-within a b text more fault writes = (
   writes.1,
 )
 
--- a record is rendered, by the contract of the CSV writer
-pub gathers-record : (contents : Option (List ℕ)) (failed : Bool) (old new : RecordWriter) (fields : List (List ℕ)) → new.text ≡ old.text
-    → (fields_written old.rendered ≡ 0 → has_written old.rendered ≡ false → (writer_setup old.rendered).style ≢ NonNumeric
-    → rendered_of new ≡ rendered_of old ++ row_text (writer_setup old.rendered) fields)
-    → fields_written new.rendered ≡ 0 → has_written new.rendered ≡ false → writer_setup new.rendered ≡ writer_setup old.rendered
-    → Writes (at contents failed old) (at contents failed new) (record_text fields) (Ok tt)
+-- a record is rendered and ended
+pub gathers-record : (contents : Option (List ℕ)) (failed : Bool) (start old new : RecordWriter) (fields : List (List ℕ)) → HasPushed start old fields → new.text ≡ old.text
+    → Ends old.rendered new.rendered → Writes (at contents failed start) (at contents failed new) (record_text fields) (Ok tt)
 unfolding record_text
-gathers-record contents failed old new fields same bytes ended clean setup =
-    gathers contents failed old new (row_text report_style fields) same
+gathers-record contents failed start old new fields pushed same ends =
+    gathers contents failed start new (row_text report_style fields) (same ∙ pushed.0)
     (λ ready.
-    let plain : (writer_setup old.rendered).style ≢ NonNumeric = λ other. cc (ap (λ s. s.style) ready.setup, other) in
-    (rw ready.setup at (bytes ready.fields ready.clean plain), record { setup = setup ∙ ready.setup; fields = ended; clean = clean }))
+    let before = rendered_of start in
+    let begun : HasFields report_style before [] start.rendered =
+    record { setup = ready.setup; plain = λ other. cc other; text = sym (append-nil before); count = ready.fields; shown = ready.clean } in
+    let ended = ends report_style before fields (pushed.1 report_style before [] begun) in
+    (ended.text ∙ append-nil (before ++ row_text report_style fields), record { setup = ended.setup; fields = ended.count; clean = ended.shown }))
 
 -- a record is rendered, and then the rendered records are put
 pub gathers-and-hands : (a b c : At) (row : List ℕ) (result : Result (Unit {0}) WriteFault) → Writes a b row (Ok tt) → Writes b c [] result → Writes a c row result

@@ -1,5 +1,7 @@
 pub mod Adding
 pub mod Holding
+pub mod Pushing
+pub mod PushedRows
 pub mod Noting
 pub mod Passing
 pub mod Limiting

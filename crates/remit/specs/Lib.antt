@@ -1,6 +1,7 @@
 pub mod Amounts
 pub mod Decided
 pub mod FieldTexts
+pub mod Fields
 pub mod Records
 pub mod Report
 pub mod Writing

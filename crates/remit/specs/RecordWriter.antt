@@ -1,21 +1,17 @@
 -- The writing of a text in pieces: the bytes that the writer has received, and the bytes that are buffered.
 use Rattle.std.specs.Prelude.{◌≡◌, ℕ, Bool, true, false, List, [], ◌++◌, length, Option, Result, Ok, Err}
 use Rattle.std.specs.Io.KnownBytes.{Appends}
-use Rattle.csv.specs.Records.{Row, fields_of, partial_of}
-use Rattle.csv.specs.Writing.{fields_written, has_written, writer_pending, writer_setup, writer_under}
+use Rattle.csv.specs.Writing.{fields_written, has_written, writer_setup}
 use Rattle.fixpoint.specs.BufferedOut.{IsEmpty, is_cut, unsent_of, written_of}
+use Rattle.remit.specs.Fields.{Pushes, rendered_in}
 use Rattle.remit.specs.Report.{report_style}
 use Rattle.faults.specs.declared.write_fault.WriteCause.TheVariants.{Device, OutOfMemory}
 use Rattle.faults.specs.declared.write_fault.WriteFault.{WriteFault}
 use Rattle.remit.specs.declared.record_writer.RecordWriter.{RecordWriter}
 
--- the fields are appended to those of the record, if the record has no unfinished field
-abbrev pub Pushes : Row → Row → List (List ℕ) → Type 0
-Pushes old new fields = partial_of old ≡ [] → (fields_of new ≡ fields_of old ++ fields) × (partial_of new ≡ [])
-
--- the rendered records, which are not yet put after the text
+-- the rendered text, which is not yet put after the text
 abbrev pub rendered_of : RecordWriter → List ℕ
-rendered_of writer = (writer_under writer.rendered).items ++ writer_pending writer.rendered
+rendered_of writer = rendered_in writer.rendered
 
 -- the bytes that are buffered and not yet passed on
 abbrev pub gathered_of : RecordWriter → List ℕ
@@ -72,6 +68,10 @@ Writes old new more (Ok done) =
 Writes old new more (Err fault) =
     ((start : Option (List ℕ)) (text : List ℕ) → Holds start text old → HasFront start (text ++ more) fault.written new.contents)
     × Leaves fault old.failed new.failed
+
+-- these fields are rendered of a record that began at the start
+abbrev pub HasPushed : RecordWriter → RecordWriter → List (List ℕ) → Type 0
+HasPushed start now fields = (now.text ≡ start.text) × Pushes start.rendered now.rendered fields
 
 -- the fault is a lack of memory, after the bytes that this writer has passed on
 pub record IsNoMemory (writer : RecordWriter) (fault : WriteFault) : Type 0 where

@@ -15,6 +15,7 @@ mod by_threads;
 mod counts;
 mod decisions;
 mod field_texts;
+mod fields;
 mod record;
 mod record_writer;
 mod report;
@@ -24,5 +25,9 @@ mod sums;
 pub use counts::{FileCounts, RecordCounts, RecordStatus, RefusalCount, RunCounts, count_run};
 pub use decisions::Decisions;
 pub use faults::{WriteCause, WriteFault};
-pub use record::{push_family, push_money, push_year};
+pub use field_texts::{fault_text, reason_text};
+pub use fields::{end_record, push_field, writer_into};
+pub use record::{
+    push_claim, push_family, push_money, push_number, push_refused, push_whose, push_year,
+};
 pub use report::{write_report, write_report_by_threads};

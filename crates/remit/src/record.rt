@@ -1,6 +1,5 @@
 //! The fields of the remittance's records.
 ghost use Rattle.std.specs.Prelude.{◌≡◌, ◌≤◌, ℕ, ℤ, Some, IfOk, pos, List, [], ◌∷◌, codes, decimal, map, replicate, OnOk};
-ghost use Rattle.csv.specs.Records.{fields_of};
 ghost use Rattle.faults.specs.ReasonText.{reason_text};
 ghost use Rattle.feel_tests.specs.Calendar.{year_of, year_text};
 ghost use Rattle.fixpoint.specs.Money.{money_text};
@@ -13,7 +12,7 @@ ghost use Rattle.intake_csv.specs.RowSummary.{IsDayLocatedAt, IsSummaryOf, AreId
 ghost use Rattle.intake_csv.specs.declared.rows.Row.{Row as AnyRow};
 ghost use Rattle.claim_gate.specs.Terms.{texts_of};
 ghost use Rattle.remit.specs.Amounts.{amount_of, name_of};
-ghost use Rattle.remit.specs.RecordWriter.{Pushes};
+ghost use Rattle.remit.specs.Fields.{Pushes};
 ghost use Rattle.remit.specs.Looked.{AreSums, looked_up, outcome_in};
 ghost use Rattle.remit.specs.FieldTexts.{remarks_text};
 ghost use Rattle.remit.specs.Records.{front_names, header_fields, record_of, reported_by, status_fields, reported_of, reported_refused, total_fields, total_front, id_column_fields, family_fields, whose_fields, year_fields};
@@ -21,8 +20,9 @@ ghost use Rattle.remit.specs.Records.{front_names, header_fields, record_of, rep
 use crate::amount::{AMOUNTS, Amount};
 use crate::decisions::Decisions;
 use crate::field_texts::{fault_text, join_remarks, reason_text, sum_text};
+use crate::fields::push_field;
 use crate::sums::Sums;
-use csv::ByteRecord;
+use csv::Writer;
 use feel_tests::{day_year, year_text};
 use intake_csv::{CsvRecord, IdColumns, RowFault, RowSummary};
 use itoa::Buffer;
@@ -36,21 +36,20 @@ const FIELDS_BEFORE: [&[u8]; 2] = [b"provider", b"record"];
 /// The names of the fields between the identifiers and the amounts.
 const FIELDS_BETWEEN: [&[u8]; 2] = [b"status", b"reason"];
 
-/// Fills the record with the header, which depends on the plan's version.
-pub fn fill_header(line: &mut ByteRecord, version: u8) -> Result<(), AllocError>
-    ensures { OnOk result (fields_of line.new ≡ header_fields version) }
+/// Appends the fields of the header, which depends on the plan's version.
+pub fn push_header(line: &mut Writer<Vec<u8>>, version: u8) -> Result<(), AllocError>
+    ensures { OnOk result (Pushes line.old line.new (header_fields version)) }
 {
-    line.clear();
     push_front_names(line, version)?;
     push_names(line, &AMOUNTS)?;
-    line.push_field(b"remarks")
+    push_field(line, b"remarks")
 }
 
-/// Fills the record with the row of a provider's file that `summary` summarizes; `source` is the CSV
+/// Appends the fields for the row of a provider's file that `summary` summarizes; `source` is the CSV
 /// record of the row. Several remarks are joined in `joined`, a buffer that all rows use.
-pub fn fill_row(
+pub fn push_row(
     alloc: Global,
-    line: &mut ByteRecord,
+    line: &mut Writer<Vec<u8>>,
     joined: &mut Vec<u8>,
     decisions: &Decisions,
     provider: usize,
@@ -59,9 +58,8 @@ pub fn fill_row(
 ) -> Result<(), AllocError>
     requires { 1 ≤ provider }
     ensures { OnOk result ((row : AnyRow) → IsSummaryOf source.now summary.now row
-        → fields_of line.new ≡ record_of (looked_up decisions.now) provider row) }
+        → Pushes line.old line.new (record_of (looked_up decisions.now) provider row)) }
 {
-    line.clear();
     push_number(line, provider)?;
     match summary {
         RowSummary::Good {
@@ -81,25 +79,24 @@ pub fn fill_row(
     }
 }
 
-/// Fills the record with the number of accepted claims and the sums over the paid claims.
-pub fn fill_total(
+/// Appends the fields of the totals: the number of accepted claims and the sums over the paid claims.
+pub fn push_total(
     alloc: Global,
-    line: &mut ByteRecord,
+    line: &mut Writer<Vec<u8>>,
     version: u8,
     accepted: usize,
     sums: Sums,
 ) -> Result<(), AllocError>
     ensures { OnOk result ((J : List AnyEvent) (count : ℕ) → accepted ≡ accepted_in J
-        → AreSums J count sums → fields_of line.new ≡ total_fields version J) }
+        → AreSums J count sums → Pushes line.old line.new (total_fields version J)) }
 {
-    line.clear();
     push_total_front(line, version, accepted)?;
     push_sums(alloc, line, sums.as_slice())?;
-    line.push_field(b"")
+    push_field(line, b"")
 }
 
 // Appends the names of the fields before the amounts.
-fn push_front_names(line: &mut ByteRecord, version: u8) -> Result<(), AllocError>
+fn push_front_names(line: &mut Writer<Vec<u8>>, version: u8) -> Result<(), AllocError>
     ensures { OnOk result (Pushes line.old line.new (front_names version)) }
 {
     push_all(line, &FIELDS_BEFORE)?;
@@ -108,10 +105,14 @@ fn push_front_names(line: &mut ByteRecord, version: u8) -> Result<(), AllocError
 }
 
 // Appends the fields of the totals before the amounts.
-fn push_total_front(line: &mut ByteRecord, version: u8, accepted: usize) -> Result<(), AllocError>
+fn push_total_front(
+    line: &mut Writer<Vec<u8>>,
+    version: u8,
+    accepted: usize,
+) -> Result<(), AllocError>
     ensures { OnOk result (Pushes line.old line.new (total_front version accepted)) }
 {
-    line.push_field(b"total")?;
+    push_field(line, b"total")?;
     push_number(line, accepted)?;
     push_whose(line, version, b"", b"", b"", b"")?;
     push_repeated(line, b"", FIELDS_BETWEEN.len())
@@ -120,7 +121,7 @@ fn push_total_front(line: &mut ByteRecord, version: u8, accepted: usize) -> Resu
 // Appends the identifiers of a claim. The year is read only if the plan keeps benefit years.
 fn push_id_columns(
     alloc: Global,
-    line: &mut ByteRecord,
+    line: &mut Writer<Vec<u8>>,
     version: u8,
     id_columns: IdColumns,
     source: &CsvRecord,
@@ -171,9 +172,9 @@ fn field_at(source: &CsvRecord, place: usize) -> &[u8]
     }
 }
 
-// Appends the identifiers of a record. Only some versions of a plan have a family and a year.
-fn push_whose(
-    line: &mut ByteRecord,
+/// Appends the identifiers of a record. Only some versions of a plan have a family and a year.
+pub fn push_whose(
+    line: &mut Writer<Vec<u8>>,
     version: u8,
     claim: &[u8],
     family: &[u8],
@@ -183,38 +184,47 @@ fn push_whose(
     ensures { OnOk result (Pushes line.old line.new
         (whose_fields version claim.now family.now member.now year.now)) }
 {
-    line.push_field(claim)?;
+    push_field(line, claim)?;
     push_family(line, has_families(version), family)?;
-    line.push_field(member)?;
+    push_field(line, member)?;
     push_year(line, has_years(version), year)
 }
 
 /// Appends the family, if the plan keeps accumulators for families.
-pub fn push_family(line: &mut ByteRecord, families: bool, family: &[u8]) -> Result<(), AllocError>
+pub fn push_family(
+    line: &mut Writer<Vec<u8>>,
+    families: bool,
+    family: &[u8],
+) -> Result<(), AllocError>
     ensures { OnOk result (Pushes line.old line.new (family_fields families family.now)) }
 {
     if families {
-        line.push_field(family)
+        push_field(line, family)
     } else {
         Ok(())
     }
 }
 
 /// Appends the benefit year, if the plan keeps accumulators by benefit year.
-pub fn push_year(line: &mut ByteRecord, keeps_years: bool, year: &[u8]) -> Result<(), AllocError>
+pub fn push_year(
+    line: &mut Writer<Vec<u8>>,
+    keeps_years: bool,
+    year: &[u8],
+) -> Result<(), AllocError>
     ensures { OnOk result (Pushes line.old line.new (year_fields keeps_years year.now)) }
 {
     if keeps_years {
-        line.push_field(year)
+        push_field(line, year)
     } else {
         Ok(())
     }
 }
 
-// Appends the status and all that follows it. A claim without an outcome was late.
-fn push_claim(
+/// Appends the status of a claim and all that follows it. A claim without an outcome was late.
+/// Several remarks are joined in `joined`.
+pub fn push_claim(
     alloc: Global,
-    line: &mut ByteRecord,
+    line: &mut Writer<Vec<u8>>,
     joined: &mut Vec<u8>,
     decided: Option<&Outcome>,
 ) -> Result<(), AllocError>
@@ -224,7 +234,7 @@ fn push_claim(
     match decided {
         Some(decision) => push_decision(alloc, line, joined, decision),
         None => {
-            line.push_field(b"late")?;
+            push_field(line, b"late")?;
             push_repeated(line, b"", 1 + AMOUNTS.len() + 1)
         }
     }
@@ -232,7 +242,7 @@ fn push_claim(
 
 fn push_decision(
     alloc: Global,
-    line: &mut ByteRecord,
+    line: &mut Writer<Vec<u8>>,
     joined: &mut Vec<u8>,
     decision: &Outcome,
 ) -> Result<(), AllocError>
@@ -253,43 +263,48 @@ fn push_decision(
         Verdict::Pended(reason) => {
             push_pended(alloc, line, reason)?;
             push_repeated(line, b"0.00", AMOUNTS.len())?;
-            line.push_field(b"")
+            push_field(line, b"")
         }
     }
 }
 
-fn push_pended(alloc: Global, line: &mut ByteRecord, reason: Reason) -> Result<(), AllocError>
+fn push_pended(alloc: Global, line: &mut Writer<Vec<u8>>, reason: Reason) -> Result<(), AllocError>
     ensures { OnOk result (Pushes line.old line.new
         (codes "pended" ∷ reason_text reason ∷ [])) }
 {
     push_status(line, b"pended", reason_text(alloc, reason)?.as_bytes())
 }
 
-fn push_status(line: &mut ByteRecord, status: &[u8], reason: &[u8]) -> Result<(), AllocError>
+fn push_status(line: &mut Writer<Vec<u8>>, status: &[u8], reason: &[u8]) -> Result<(), AllocError>
     ensures { OnOk result (Pushes line.old line.new (status.now ∷ reason.now ∷ [])) }
 {
-    line.push_field(status)?;
-    line.push_field(reason)
+    push_field(line, status)?;
+    push_field(line, reason)
 }
 
-fn push_refused(alloc: Global, line: &mut ByteRecord, fault: RowFault) -> Result<(), AllocError>
+/// Appends the status of a refused record and all that follows it.
+pub fn push_refused(
+    alloc: Global,
+    line: &mut Writer<Vec<u8>>,
+    fault: RowFault,
+) -> Result<(), AllocError>
     ensures { OnOk result (Pushes line.old line.new (status_fields (reported_refused fault))) }
 {
     push_status(line, b"refused", fault_text(alloc, fault)?.as_bytes())?;
     push_repeated(line, b"", AMOUNTS.len() + 1)
 }
 
-fn push_names(line: &mut ByteRecord, amounts: &[Amount]) -> Result<(), AllocError>
+fn push_names(line: &mut Writer<Vec<u8>>, amounts: &[Amount]) -> Result<(), AllocError>
     ensures { OnOk result (Pushes line.old line.new (map name_of amounts.now)) }
 {
     for amount in amounts {
-        line.push_field(amount.name().as_bytes())?;
+        push_field(line, amount.name().as_bytes())?;
     }
     Ok(())
 }
 
 fn push_amounts(
-    line: &mut ByteRecord,
+    line: &mut Writer<Vec<u8>>,
     decision: &Outcome,
     amounts: &[Amount],
 ) -> Result<(), AllocError>
@@ -302,7 +317,7 @@ fn push_amounts(
     Ok(())
 }
 
-fn push_sums(alloc: Global, line: &mut ByteRecord, sums: &[u128]) -> Result<(), AllocError>
+fn push_sums(alloc: Global, line: &mut Writer<Vec<u8>>, sums: &[u128]) -> Result<(), AllocError>
     ensures { OnOk result (Pushes line.old line.new
         (map (λ sum. money_text (pos sum)) sums.now)) }
 {
@@ -315,7 +330,7 @@ fn push_sums(alloc: Global, line: &mut ByteRecord, sums: &[u128]) -> Result<(), 
 // Most outcomes have at most one remark, which is appended without a copy.
 #[tactic(auto, using(crate::proofs::Remarking::none_joined, crate::proofs::Remarking::one_joined))]
 fn push_remarks(
-    line: &mut ByteRecord,
+    line: &mut Writer<Vec<u8>>,
     joined: &mut Vec<u8>,
     decision: &Outcome,
 ) -> Result<(), AllocError>
@@ -323,50 +338,51 @@ fn push_remarks(
 {
     let remarks = &decision.remarks;
     let Some(first) = remarks.get(0) else {
-        return line.push_field(b"");
+        return push_field(line, b"");
     };
     if remarks.len() == 1 {
-        return line.push_field(first.as_bytes());
+        return push_field(line, first.as_bytes());
     }
     join_remarks(joined, remarks)?;
-    line.push_field(joined.as_slice())
+    push_field(line, joined.as_slice())
 }
 
-fn push_number(line: &mut ByteRecord, number: usize) -> Result<(), AllocError>
+/// Appends a number in decimal digits.
+pub fn push_number(line: &mut Writer<Vec<u8>>, number: usize) -> Result<(), AllocError>
     ensures { OnOk result (Pushes line.old line.new (decimal number ∷ [])) }
 {
-    line.push_field(Buffer::new().format(number).as_bytes())
+    push_field(line, Buffer::new().format(number).as_bytes())
 }
 
 /// Appends an amount of money, with two decimals.
-pub fn push_money(line: &mut ByteRecord, money: Money) -> Result<(), AllocError>
+pub fn push_money(line: &mut Writer<Vec<u8>>, money: Money) -> Result<(), AllocError>
     ensures { OnOk result (Pushes line.old line.new (money_text money ∷ [])) }
 {
     let mut buffer = [0; 24];
     let length = money.amount().write_money(&mut buffer);
-    line.push_field(&buffer[..length])
+    push_field(line, &buffer[..length])
 }
 
-fn push_sum(alloc: Global, line: &mut ByteRecord, units: u128) -> Result<(), AllocError>
+fn push_sum(alloc: Global, line: &mut Writer<Vec<u8>>, units: u128) -> Result<(), AllocError>
     ensures { OnOk result (Pushes line.old line.new (money_text (pos units) ∷ [])) }
 {
-    line.push_field(sum_text(alloc, units)?.as_bytes())
+    push_field(line, sum_text(alloc, units)?.as_bytes())
 }
 
-fn push_all(line: &mut ByteRecord, fields: &[&[u8]]) -> Result<(), AllocError>
+fn push_all(line: &mut Writer<Vec<u8>>, fields: &[&[u8]]) -> Result<(), AllocError>
     ensures { OnOk result (Pushes line.old line.new (texts_of fields.now)) }
 {
     for field in fields {
-        line.push_field(field)?;
+        push_field(line, field)?;
     }
     Ok(())
 }
 
-fn push_repeated(line: &mut ByteRecord, field: &[u8], times: usize) -> Result<(), AllocError>
+fn push_repeated(line: &mut Writer<Vec<u8>>, field: &[u8], times: usize) -> Result<(), AllocError>
     ensures { OnOk result (Pushes line.old line.new (replicate times field.now)) }
 {
     for _ in 0..times {
-        line.push_field(field)?;
+        push_field(line, field)?;
     }
     Ok(())
 }

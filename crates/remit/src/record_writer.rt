@@ -1,14 +1,14 @@
 //! Records of the remittance: their CSV text (RFC 4180) is rendered into memory and passed on to a
 //! writer in large pieces.
-ghost use Rattle.std.specs.Prelude.{◌≡◌, [], IfErr, OnOk, false};
-ghost use Rattle.csv.specs.Records.{fields_of};
-ghost use Rattle.csv.specs.Writing.{fields_written, has_written, writer_pending, writer_setup, writer_under};
+ghost use Rattle.std.specs.Prelude.{◌≡◌, [], List, ℕ, IfErr, OnOk, false};
 ghost use Rattle.fixpoint.specs.BufferedOut.{is_cut};
 ghost use Rattle.fixpoint.specs.Out.{has_failed, writer_of};
-ghost use Rattle.remit.specs.RecordWriter.{IsCutFault, IsNoMemory, IsUnused, Writes, at, gathered_of, rendered_of};
+ghost use Rattle.remit.specs.RecordWriter.{HasPushed, IsCutFault, IsNoMemory, IsUnused, Writes, at, gathered_of, rendered_of};
 ghost use Rattle.remit.specs.Report.{record_text, report_style};
+ghost use Rattle.remit.specs.declared.record_writer.RecordWriter.{RecordWriter as AnyWriter};
 
-use csv::{ByteRecord, Terminator, Writer, WriterBuilder};
+use crate::fields::{end_record, writer_into};
+use csv::Writer;
 use faults::{WriteCause, WriteFault};
 use fixpoint::{BufferedOut, Out, PIECE_BYTES};
 use std::alloc::Global;
@@ -21,7 +21,8 @@ use std::mem;
 /// put after the text, which passes it on without a copy.
 pub struct RecordWriter {
     alloc: Global,
-    rendered: Writer<Vec<u8>>,
+    /// The rendered records, and then the fields of a record that is not ended yet.
+    pub rendered: Writer<Vec<u8>>,
     text: BufferedOut,
 }
 
@@ -57,13 +58,15 @@ impl RecordWriter {
         }
     }
 
-    /// Renders a record, and puts the rendered records once they have the size of a buffer.
-    pub fn write<W: Write>(&mut self, line: &ByteRecord, out: &mut Out<W>) -> Result<(), WriteFault>
-        ensures { Writes (at (W.contents (writer_of out.old)) (has_failed out.old) self.old)
+    /// Ends the record with the fields that are rendered, and puts the rendered records once they
+    /// have the size of a buffer.
+    pub fn end_record<W: Write>(&mut self, out: &mut Out<W>) -> Result<(), WriteFault>
+        ensures { (start : AnyWriter) (fields : List (List ℕ)) → HasPushed start self.old fields
+            → Writes (at (W.contents (writer_of out.old)) (has_failed out.old) start)
             (at (W.contents (writer_of out.new)) (has_failed out.new) self.new)
-            (record_text (fields_of line.now)) result }
+            (record_text fields) result }
     {
-        if self.rendered.write_byte_record(line).is_err() {
+        if end_record(&mut self.rendered).is_err() {
             return Err(self.no_memory());
         }
         if self.rendered.get_ref().len() < PIECE_BYTES {
@@ -131,17 +134,4 @@ impl RecordWriter {
             cause: WriteCause::OutOfMemory,
         })
     }
-}
-
-// Returns a writer that appends records to a text, in the style of the remittance.
-fn writer_into(text: Vec<u8>) -> Writer<Vec<u8>>
-    ensures under { writer_under result ≡ text }
-    ensures pending { writer_pending result ≡ [] }
-    ensures setup { writer_setup result ≡ report_style }
-    ensures fields { fields_written result ≡ 0 }
-    ensures clean { has_written result ≡ false }
-{
-    WriterBuilder::new()
-        .terminator(Terminator::CRLF)
-        .from_writer(text)
 }

@@ -18,12 +18,11 @@ ghost use Rattle.faults.specs.declared.write_fault.WriteCause.TheVariants.{Devic
 
 use crate::by_threads::write_files_by_threads;
 use crate::decisions::Decisions;
-use crate::record::{fill_header, fill_row, fill_total};
+use crate::record::{push_header, push_row, push_total};
 use crate::record_writer::RecordWriter;
 use crate::sections::{Section, SectionTooLarge, skip_rows};
 use crate::sums::Sums;
 use claim_gate::{Batch, Terms};
-use csv::ByteRecord;
 use faults::{WriteCause, WriteFault};
 use fixpoint::Out;
 use intake_csv::{CsvRecord, RowSummary, Rows};
@@ -210,8 +209,6 @@ pub struct Report<'d, 'j> {
     pub alloc: Global,
     /// The decisions on the claims.
     pub decisions: &'d Decisions<'j>,
-    // The last record that was filled. All records use the same memory.
-    line: ByteRecord,
     // The joined remarks of a record. All records use the same memory.
     joined: Vec<u8>,
     writer: RecordWriter,
@@ -222,7 +219,6 @@ impl Drop for Report<'_, '_> {
         let Report {
             alloc: _,
             decisions: _,
-            line: _,
             joined: _,
             writer: _,
         } = self;
@@ -238,7 +234,6 @@ impl<'d, 'j> Report<'d, 'j> {
         Report {
             alloc,
             decisions,
-            line: ByteRecord::new(alloc),
             joined: Vec::new(alloc),
             writer: RecordWriter::new(alloc),
         }
@@ -251,10 +246,10 @@ impl<'d, 'j> Report<'d, 'j> {
             (record_text (header_fields terms.now.plan.version)) result }
         ensures decisions { self.new.decisions ≡ self.old.decisions }
     {
-        if fill_header(&mut self.line, terms.plan().version()).is_err() {
+        if push_header(&mut self.writer.rendered, terms.plan().version()).is_err() {
             return Err(self.writer.no_memory());
         }
-        self.writer.write(&self.line, out)
+        self.writer.end_record(out)
     }
 
     /// Writes the rows of a section from their text, and frees its memory. Without a text, the rows
@@ -375,8 +370,8 @@ impl<'d, 'j> Report<'d, 'j> {
             (record_text (record_of (looked_up self.old.decisions.now) provider row)) result }
         ensures decisions { self.new.decisions ≡ self.old.decisions }
     {
-        let (line, joined) = (&mut self.line, &mut self.joined);
-        if fill_row(
+        let (line, joined) = (&mut self.writer.rendered, &mut self.joined);
+        if push_row(
             self.alloc,
             line,
             joined,
@@ -389,8 +384,7 @@ impl<'d, 'j> Report<'d, 'j> {
         {
             return Err(self.writer.no_memory());
         }
-        let row = &self.line;
-        self.writer.write(row, out)
+        self.writer.end_record(out)
     }
 
     /// Passes the buffered bytes on to the writer.
@@ -417,10 +411,11 @@ impl<'d, 'j> Report<'d, 'j> {
         let accepted = self.decisions.accepted_count();
         let sums = Sums::over(journal);
         let version = terms.plan().version();
-        if fill_total(self.alloc, &mut self.line, version, accepted, sums).is_err() {
+        let line = &mut self.writer.rendered;
+        if push_total(self.alloc, line, version, accepted, sums).is_err() {
             return Err(self.writer.no_memory());
         }
-        self.writer.write(&self.line, out)
+        self.writer.end_record(out)
     }
 }
 

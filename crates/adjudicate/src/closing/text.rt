@@ -1,20 +1,18 @@
 //! The text of closing balances: the CSV (RFC 4180) that a run reads as its opening balances.
-ghost use Rattle.std.specs.Prelude.{◌≡◌, ◌<◌, ◌++◌, List, ℕ, [], IfOk, OnOk, map, string_bytes, true};
-ghost use Rattle.csv.specs.Records.{fields_of};
-ghost use Rattle.csv.specs.Writing.{default_writer, row_text};
+ghost use Rattle.std.specs.Prelude.{◌≡◌, ◌<◌, IfOk, OnOk, map, string_bytes, true};
 ghost use Rattle.intake_csv.specs.Balances.{IsKept, IsKeptUnder};
 ghost use Rattle.intake_csv.specs.Columns.{balance_columns};
-ghost use Rattle.remit.specs.RecordWriter.{Pushes};
+ghost use Rattle.remit.specs.Fields.{Pushes};
 ghost use Rattle.adjudicate.specs.Entries.{account_of_key, entries_of};
-ghost use Rattle.adjudicate.specs.ClosingText.{AreWritable, HasRendered, IsClosingText, IsWritable, account_fields, closing_text, entry_fields};
+ghost use Rattle.adjudicate.specs.ClosingText.{AreWritable, IsClosingText, IsWritable, account_fields, closing_text, entry_fields};
 
 use crate::closing::account_key::AccountKey;
 use crate::closing::accounts::ClosingBalances;
 use crate::closing::posting::closing_balances;
 use claim_gate::{Batch, Terms};
-use csv::{ByteRecord, Writer};
+use csv::Writer;
 use feel_tests::year_text;
-use remit::{push_family, push_money, push_year};
+use remit::{end_record, push_family, push_field, push_money, push_year};
 use settlement::Balance;
 use std::alloc::{AllocError, Global};
 use tables::{has_families, has_years};
@@ -37,13 +35,12 @@ fn text_of(alloc: Global, version: u8, closing: &ClosingBalances) -> Result<Vec<
         ≡ closing_text version (entries_of closing.now)) }
     ensures writable { IfOk result (λ _. AreWritable version (entries_of closing.now)) }
 {
-    let mut line = ByteRecord::new(alloc);
     let mut writer = Writer::from_writer(Vec::new(alloc));
-    fill_header(&mut line, version)?;
-    write(&mut writer, &line)?;
+    push_header(&mut writer, version)?;
+    end_record(&mut writer)?;
     for account in closing.accounts.iter() {
-        fill_entry(&mut line, version, account.0, *account.1)?;
-        write(&mut writer, &line)?;
+        push_entry(&mut writer, version, account.0, *account.1)?;
+        end_record(&mut writer)?;
     }
     match writer.into_inner() {
         Ok(text) => Ok(text),
@@ -51,34 +48,23 @@ fn text_of(alloc: Global, version: u8, closing: &ClosingBalances) -> Result<Vec<
     }
 }
 
-fn write(writer: &mut Writer<Vec<u8>>, line: &ByteRecord) -> Result<(), AllocError>
-    ensures { OnOk result ((text : List ℕ) → HasRendered writer.old text
-        → HasRendered writer.new (text ++ row_text default_writer (fields_of line.now))) }
+fn push_header(line: &mut Writer<Vec<u8>>, version: u8) -> Result<(), AllocError>
+    ensures { OnOk result (Pushes line.old line.new (map (λ c. c.name) (balance_columns version))) }
 {
-    if writer.write_byte_record(line).is_err() {
-        return Err(AllocError);
-    }
-    Ok(())
-}
-
-fn fill_header(line: &mut ByteRecord, version: u8) -> Result<(), AllocError>
-    ensures { OnOk result (fields_of line.new ≡ map (λ c. c.name) (balance_columns version)) }
-{
-    line.clear();
     push_account(line, version, b"family", b"member", b"year")?;
-    line.push_field(b"met")?;
-    line.push_field(b"oop")?;
-    line.push_field(b"paid")
+    push_field(line, b"met")?;
+    push_field(line, b"oop")?;
+    push_field(line, b"paid")
 }
 
-fn fill_entry(
-    line: &mut ByteRecord,
+fn push_entry(
+    line: &mut Writer<Vec<u8>>,
     version: u8,
     key: &AccountKey,
     balance: Balance,
 ) -> Result<(), AllocError>
-    ensures fields { OnOk result (fields_of line.new
-        ≡ entry_fields version (account_of_key key.now, balance)) }
+    ensures fields { OnOk result (Pushes line.old line.new
+        (entry_fields version (account_of_key key.now, balance))) }
     ensures writable { OnOk result (IsWritable version (account_of_key key.now, balance)) }
 {
     // The accounts of balances and of claims are all valid.
@@ -89,7 +75,6 @@ fn fill_entry(
     let _met = balance.met.amount();
     let _oop = balance.oop.amount();
     let _paid = balance.paid.amount();
-    line.clear();
     let year = year_text(key.year);
     push_account(
         line,
@@ -130,7 +115,7 @@ fn is_alone(key: &AccountKey) -> bool
 
 // Appends the names of an account. Only some versions of a plan have a family and a year.
 fn push_account(
-    line: &mut ByteRecord,
+    line: &mut Writer<Vec<u8>>,
     version: u8,
     family: &[u8],
     member: &[u8],
@@ -140,6 +125,6 @@ fn push_account(
         (account_fields version family.now member.now year.now)) }
 {
     push_family(line, has_families(version), family)?;
-    line.push_field(member)?;
+    push_field(line, member)?;
     push_year(line, has_years(version), year)
 }

@@ -1,6 +1,6 @@
 use Rattle.std.proofs.Common.{take}
 use Rattle.claim_gate.specs.Terms.{texts_of}
-use Rattle.remit.specs.RecordWriter.{Pushes}
+use Rattle.remit.specs.Fields.{Pushes}
 use Rattle.remit.proofs.record.push_all.Given as goal
 
 -- the fields so far are appended to the record

@@ -1,7 +1,7 @@
 use Rattle.std.proofs.Common.{map, take}
 use Rattle.fixpoint.specs.Money.{money_text}
 use Rattle.remit.specs.Amounts.{amount_of}
-use Rattle.remit.specs.RecordWriter.{Pushes}
+use Rattle.remit.specs.Fields.{Pushes}
 use Rattle.remit.proofs.record.push_amounts.Given as goal
 
 -- the fields so far are appended to the record

@@ -1,6 +1,6 @@
-use Rattle.std.proofs.Common.{arith}
-use Rattle.std.proofs.lemmas.Grind.{common_steps}
+use Rattle.remit.proofs.Pushing.{both-pushed-ok}
 use Rattle.remit.proofs.record.push_front_names.Goals as goal
 
 pub returns : goal.returns
-returns c = grind (arith, common_steps)
+returns c =
+    both-pushed-ok _ _ _ _ _ _ c.in_ok-push_all.ensures (both-pushed-ok _ _ _ _ _ _ c.in_ok-push_whose.ensures c.push_all-2.ensures)

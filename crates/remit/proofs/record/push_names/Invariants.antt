@@ -1,6 +1,6 @@
 use Rattle.std.proofs.Common.{map, take}
 use Rattle.remit.specs.Amounts.{name_of}
-use Rattle.remit.specs.RecordWriter.{Pushes}
+use Rattle.remit.specs.Fields.{Pushes}
 use Rattle.remit.proofs.record.push_names.Given as goal
 
 -- the fields so far are appended to the record

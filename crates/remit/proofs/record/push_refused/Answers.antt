@@ -1,6 +1,5 @@
-use Rattle.std.proofs.Common.{arith}
-use Rattle.std.proofs.lemmas.Grind.{common_steps}
+use Rattle.remit.proofs.Pushing.{both-pushed-ok}
 use Rattle.remit.proofs.record.push_refused.Goals as goal
 
 pub returns : goal.returns
-returns c = grind (arith, common_steps)
+returns c = both-pushed-ok _ _ _ _ _ _ (rw (c.as_bytes.ensures.value, c.in_ok-fault_text.ensures) at c.in_ok-push_status.ensures) c.push_repeated.ensures

@@ -1,5 +1,5 @@
 use Rattle.std.proofs.Common.{replicate}
-use Rattle.remit.specs.RecordWriter.{Pushes}
+use Rattle.remit.specs.Fields.{Pushes}
 use Rattle.remit.proofs.record.push_repeated.Given as goal
 
 -- the field is appended once in each round

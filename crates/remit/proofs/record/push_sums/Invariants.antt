@@ -1,6 +1,6 @@
 use Rattle.std.proofs.Common.{map, take, pos}
 use Rattle.fixpoint.specs.Money.{money_text}
-use Rattle.remit.specs.RecordWriter.{Pushes}
+use Rattle.remit.specs.Fields.{Pushes}
 use Rattle.remit.proofs.record.push_sums.Given as goal
 
 -- the fields so far are appended to the record

@@ -1,6 +1,7 @@
-use Rattle.std.proofs.Common.{arith}
-use Rattle.std.proofs.lemmas.Grind.{common_steps}
+use Rattle.remit.proofs.Pushing.{both-pushed-ok}
 use Rattle.remit.proofs.record.push_total_front.Goals as goal
 
 pub returns : goal.returns
-returns c = grind (arith, common_steps)
+returns c =
+    both-pushed-ok _ _ _ _ _ _ c.in_ok-push_field.ensures
+    (both-pushed-ok _ _ _ _ _ _ c.in_ok-push_number.ensures (both-pushed-ok _ _ _ _ _ _ c.in_ok-push_whose.ensures c.push_repeated.ensures))

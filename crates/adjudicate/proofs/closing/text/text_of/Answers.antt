@@ -1,7 +1,8 @@
-use Rattle.std.proofs.Common.{◌≡◌, refl, sym, ap, subst, ◌∙◌, map}
+use Rattle.std.proofs.Common.{◌≡◌, [], refl, sym, ap, subst, ◌∙◌, map}
 use Rattle.std.specs.List.{AllByRecursion}
 use Rattle.std.proofs.lemmas.Map.Iter.{rest_all, rest_more}
 use Rattle.std.specs.Map.Iter.{deref_pair}
+use Rattle.csv.specs.Writing.{default_writer}
 use Rattle.intake_csv.specs.Columns.{balance_columns}
 use Rattle.adjudicate.specs.Entries.{entries_of, entry_of_key}
 use Rattle.adjudicate.specs.ClosingText.{AreWritable, closing_text, entry_fields}
@@ -14,10 +15,11 @@ loop-account-init c =
     let left = c.into_iter-account-iterator.ensures.into_iter_gives ∙ c.iter-account-items.ensures.rest in
     let none = none-rendered c.from_writer-writer.result c.new.result c.from_writer-writer.ensures.wtr c.new.ensures.items c.from_writer-writer.ensures.empty c.from_writer-writer.ensures.cfg
     c.from_writer-writer.ensures.fields c.from_writer-writer.ensures.wrote in
+    let header = map (λ n. n.name) (balance_columns c.args.version) in
     record {
       so_far =
-          rendered-header c.args.version c.write.new.writer (map (λ n. n.name) (balance_columns c.args.version)) held c.into_iter-account-iterator.result (closing_text c.args.version (entries_of c.args.closing.now))
-          (rw c.in_ok-fill_header.ensures at (c.in_ok-write.ensures _ none)) left refl;
+          rendered-header c.args.version c.end_record.new.line header held c.into_iter-account-iterator.result (closing_text c.args.version (entries_of c.args.closing.now))
+          (c.in_ok-end_record.ensures default_writer [] header (c.in_ok-push_header.ensures default_writer [] [] none)) left refl;
       writable = subst (λ es. AreWritable c.args.version (map entry_of_key es) → AreWritable c.args.version (entries_of c.args.closing.now)) (sym left) (λ all. all);
     }
 
@@ -27,9 +29,9 @@ loop-account-preserved c =
     let step = rest_more deref_pair c.loop-account.account-iterator c.next.new.self c.next.result c.in-Some.account c.in-Some.is c.next.ensures.steps in
     record {
       so_far =
-          rendered-next c.args.version c.loop-account.writer c.write-in-loop-account.new.writer c.loop-account.account-iterator c.next.new.self held (closing_text c.args.version (entries_of c.args.closing.now))
-          c.loop-account.invariant.so_far step (rw c.in_ok-fill_entry.ensures.fields at c.in_ok-write-2.ensures);
-      writable = writable-next c.args.version c.loop-account.account-iterator c.next.new.self held (AreWritable c.args.version (entries_of c.args.closing.now)) step c.in_ok-fill_entry.ensures.writable c.loop-account.invariant.writable;
+          rendered-next c.args.version c.loop-account.writer c.push_entry.new.line c.end_record-in-loop-account.new.line c.loop-account.account-iterator c.next.new.self held
+          (closing_text c.args.version (entries_of c.args.closing.now)) c.loop-account.invariant.so_far step c.in_ok-push_entry.ensures.fields c.in_ok-end_record-2.ensures;
+      writable = writable-next c.args.version c.loop-account.account-iterator c.next.new.self held (AreWritable c.args.version (entries_of c.args.closing.now)) step c.in_ok-push_entry.ensures.writable c.loop-account.invariant.writable;
     }
 
 pub returns-in-Ok-clause-text : goal.returns-in-Ok-clause-text
