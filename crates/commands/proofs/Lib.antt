@@ -1,7 +1,6 @@
 pub mod Ends
 pub mod Statuses
 pub mod Explanations
-pub mod Named
 pub mod Ordered
 pub mod Checks
 pub mod CommandEnds

@@ -1,8 +1,8 @@
 -- The texts that a run reads by their names, up to one byte more than their limits, as far as they are known.
 use Rattle.std.specs.Prelude.{◌≡◌, ◌-◌, ◌^◌, ℕ, List, [], Option, None, Some, IsSomeAnd, map, option_map, unwrap_or}
-use Rattle.std.specs.List.{All, AllZip}
+use Rattle.std.specs.List.{All}
 use Rattle.clap.specs.declared.parser.matches.ArgMatches.{ArgMatches}
-use Rattle.console.specs.Reading.{IsReadUpTo}
+use Rattle.console.specs.Reading.{AreReadUpTo, IsReadUpTo}
 use Rattle.console.specs.declared.names.TheConstants.{BALANCES, FILE, REMITTANCE}
 use Rattle.intake_csv.specs.Limits.{file_limit_bytes}
 use Rattle.value_command.specs.Texts.{IsNamedPlan, IsNamedText, Whole}
@@ -16,17 +16,13 @@ abbrev pub IsTextIfNamed : ℕ → Whole → Option (List ℕ) → Option (List 
 IsTextIfNamed limit whole None text = text ≡ None
 IsTextIfNamed limit whole (Some name) text = IsSomeAnd text (IsReadUpTo limit (whole name))
 
--- the bytes of each text are read from the text of its name
-abbrev pub AreNamedTexts : ℕ → Whole → List (List ℕ) → List (List ℕ) → Type 0
-AreNamedTexts limit whole names texts = AllZip (λ name bytes. IsReadUpTo limit (whole name) bytes) names texts
-
 -- the bytes are read from the named balances, if the command line names them
 abbrev pub AreNamedBalances : Whole → ArgMatches → Option (List ℕ) → Type 0
 AreNamedBalances whole matches balances = IsTextIfNamed file_limit_bytes whole (word_at matches BALANCES.now) balances
 
 -- the bytes are read from the named files
 abbrev pub AreNamedFiles : Whole → ArgMatches → List (List ℕ) → Type 0
-AreNamedFiles whole matches files = AreNamedTexts file_limit_bytes whole (words_at matches FILE.now) files
+AreNamedFiles whole matches files = AreReadUpTo file_limit_bytes whole (words_at matches FILE.now) files
 
 -- the texts of a run with a cutoff
 abbrev pub texts_at : Texts → Option ℕ → RunTexts

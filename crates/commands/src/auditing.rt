@@ -18,10 +18,11 @@ use evaluation::ValueStop;
 use fixpoint::{Out, put_all};
 use std::alloc::{AllocError, Global};
 use std::io;
+use std::thread::Threads;
 use value_command::{exit_status_of, read_or_report};
 
 /// Runs the command `audit`, and returns its exit status: `Done` if the remittance is that of the texts, and `Refused` if it is not.
-pub fn audit_of<R: Print + Eprint + AllocGlobal, S: Sources>(
+pub fn audit_of<R: Print + Eprint + AllocGlobal + Threads + Sync, S: Sources>(
     rt: &R,
     sources: &S,
     matches: &ArgMatches<'_>,

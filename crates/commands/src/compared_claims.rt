@@ -25,6 +25,7 @@ use fixpoint::{Out, put_all};
 use plan_commands::{fails, print_lines};
 use std::io;
 use std::rt::Files;
+use std::thread::Threads;
 use value_command::{About, exit_status_of, output_of, read_or_report, report_unwritable};
 
 /// The texts whose remittances are compared, and their order.
@@ -47,7 +48,7 @@ pub fn has_claims(matches: &ArgMatches<'_>) -> bool {
 }
 
 /// Runs the command `compare` over claim files, and returns its exit status.
-pub fn compare_claims_of<R: Files + Print + Eprint + AllocGlobal, S: Sources>(
+pub fn compare_claims_of<R: Files + Print + Eprint + AllocGlobal + Threads + Sync, S: Sources>(
     rt: &R,
     sources: &S,
     matches: &ArgMatches<'_>,

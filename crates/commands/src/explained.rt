@@ -21,6 +21,7 @@ use explanation::{
 use fixpoint::Out;
 use std::alloc::{AllocError, Global};
 use std::io;
+use std::thread::Threads;
 use value_command::print_message;
 
 /// The texts of an explanation, and its order and format.
@@ -35,7 +36,7 @@ struct Given<'a> {
 }
 
 /// Runs the command `explain`, and returns its exit status.
-pub fn explain_of<R: Print + Eprint + AllocGlobal, S: Sources>(
+pub fn explain_of<R: Print + Eprint + AllocGlobal + Threads + Sync, S: Sources>(
     rt: &R,
     sources: &S,
     matches: &ArgMatches<'_>,

@@ -1,12 +1,10 @@
 //! The command `run`: reads the options and the files, and writes the remittance.
 
-ghost use Rattle.std.specs.Prelude.{◌≡◌, ◌≢◌, ◌⊎◌, IfErr, IfOk, map, option_map};
+ghost use Rattle.std.specs.Prelude.{◌≡◌, ◌≢◌, ◌⊎◌, ◌<◌, IfErr, IfOk, length, map, option_map};
 ghost use Rattle.console.specs.declared.exit_status.ExitStatus.TheVariants.{Done, Refused, Resource};
 ghost use Rattle.std.specs.Io.KnownBytes.{Keeps};
 ghost use Rattle.claim_gate.specs.Terms.{text_in, texts_of as texts_after};
 ghost use Rattle.adjudicate.specs.RunStop.{IsRunReason};
-ghost use Rattle.console.specs.Reading.{IsReadUpTo};
-ghost use Rattle.intake_csv.specs.Limits.{file_limit_bytes};
 ghost use Rattle.adjudicate.specs.RunText.{run_texts};
 ghost use Rattle.value_command.specs.Ends.{HasText, PutsText};
 ghost use Rattle.commands.specs.Ends.{HasRemittance, IsStatusOfRefusal, IsStatusOfRun, IsRemittanceIn, IsUnreadStatus, RunIsDone, RunIsRefused, IsRefusedRun};
@@ -24,7 +22,10 @@ use crate::words::{cutoff_of, is_strict, order_of, workers_of};
 use adjudicate::{Counting, FILE_LIMIT_BYTES, Order, RunInput, do_counted_run};
 use clap::ArgMatches;
 use console::names::{BALANCES, CLOSING, FILE, SUMMARY};
-use console::{AtomicTarget, ExitStatus, Heartbeat, Sources, explains, input_once, no_memory};
+use console::{
+    AtomicTarget, ExitStatus, Heartbeat, Sources, UnreadText, explains, input_once, no_memory,
+    read_texts,
+};
 use fixpoint::Out;
 use std::alloc::{AllocError, Global};
 use std::io;
@@ -35,7 +36,8 @@ use std::sync::{Arc, Wait};
 use std::thread::Threads;
 use std::time::Clock;
 use value_command::{
-    About, commit_output, exit_status_of, output_of, plan_of, read_or_report, report_unwritable,
+    About, commit_output, exit_status_of, output_of, plan_of, read_or_report, report_unread,
+    report_unwritable,
 };
 
 /// The texts of a run, in the order in which the program reads them.
@@ -411,7 +413,7 @@ pub fn slices_of(alloc: Global, files: &[Vec<u8>]) -> Result<Vec<&[u8]>, AllocEr
 
 /// Reads the texts that the command line names, and reports what they show. For the first one that cannot be read, an error line is printed, and its
 /// status is returned.
-pub fn texts_of<R: Eprint + AllocGlobal, S: Sources>(
+pub fn texts_of<R: Eprint + AllocGlobal + Threads + Sync, S: Sources>(
     rt: &R,
     sources: &S,
     matches: &ArgMatches<'_>,
@@ -457,7 +459,7 @@ fn balances_of<R: Eprint + AllocGlobal, S: Sources>(
     }
 }
 
-fn files_of<R: Eprint + AllocGlobal, S: Sources>(
+fn files_of<R: Eprint + AllocGlobal + Threads + Sync, S: Sources>(
     rt: &R,
     sources: &S,
     matches: &ArgMatches<'_>,
@@ -468,29 +470,25 @@ fn files_of<R: Eprint + AllocGlobal, S: Sources>(
     ensures failed { IfErr result (λ status. status ≡ Resource) }
 {
     let names = matches.get_strs(FILE).unwrap_or(&[]);
-    let mut files = Vec::new(rt.alloc());
-    for place in 0..names.len() {
-        let text = file_of(rt, sources, names[place], place + 1, explains)?;
-        if files.push(text).is_err() {
-            return Err(no_memory(rt));
-        }
+    match read_texts(rt, rt.alloc(), sources, names, FILE_LIMIT_BYTES) {
+        Ok(files) => Ok(files),
+        Err(unread) => Err(report_file(rt, names, &unread, explains)),
     }
-    Ok(files)
 }
 
-fn file_of<R: Eprint + AllocGlobal, S: Sources>(
+fn report_file<R: Eprint + AllocGlobal>(
     rt: &R,
-    sources: &S,
-    name: &str,
-    number: usize,
+    names: &[&str],
+    unread: &UnreadText,
     explains: bool,
-) -> Result<Vec<u8>, ExitStatus>
-    ensures read { IfOk result (λ bytes.
-        IsReadUpTo file_limit_bytes (S.whole sources.now name.now) bytes.items) }
-    ensures failed { IfErr result (λ status. status ≡ Resource) }
+) -> ExitStatus
+    requires named { unread.now.place < length names.now }
+    ensures { result ≡ Resource }
 {
+    let number = unread.place + 1;
     let Ok(line) = format!(in rt.alloc(); "cannot read file {number}") else {
-        return Err(no_memory(rt));
+        return no_memory(rt);
     };
-    read_or_report(rt, sources, name, FILE_LIMIT_BYTES, line.as_str(), explains)
+    let name = names[unread.place];
+    report_unread(rt, name, line.as_str(), &unread.fault, explains)
 }

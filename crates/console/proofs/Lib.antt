@@ -1,1 +1,2 @@
+mod Rounds
 pub mod Subcommands

@@ -31,7 +31,7 @@ pub use atomic_file::AtomicFile;
 pub use atomic_target::{AtomicTarget, finish};
 pub use command::matches_of;
 pub use exit_status::{ExitStatus, no_memory, print_error, usage};
-pub use files::{ReadFault, read_source, read_text};
+pub use files::{ReadFault, UnreadText, read_source, read_text, read_texts};
 pub use heartbeat::Heartbeat;
 pub use outputs::prepare_outputs;
 pub use sources::{FileSource, FileSources, Sources};

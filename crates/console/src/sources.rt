@@ -9,7 +9,8 @@ use std::{fs, io};
 
 /// A set of texts with names.
 pub trait Sources {
-    type Source: Read + Drop;
+    // A thread may read it.
+    type Source: Read + Drop + Send;
 
     // The whole text with a name, if it is known to a proof.
     ghost whole: { Self → List ℕ → Option (List ℕ) } = { λ _ _. None };
@@ -17,6 +18,11 @@ pub trait Sources {
     /// A reader of the text with this name.
     fn reader_of(&self, name: &str) -> io::Result<Self::Source>
         ensures { IfOk result (λ source. Self.Source.remaining source ≡ whole self.now name.now) };
+
+    /// Whether a read of this text may wait for another program or for a person. It is a hint: no text after such a one is opened before it is read.
+    fn may_wait(&self, _source: &Self::Source) -> bool {
+        false
+    }
 }
 
 /// The system's files by their paths, and standard input by `-`. Their texts are not known to a proof.
@@ -65,5 +71,20 @@ impl Sources for FileSources<'_> {
             return Ok(FileSource::Input(self.rt.reader()));
         }
         Ok(FileSource::File(fs::open(self.rt, name)?))
+    }
+
+    fn may_wait(&self, source: &FileSource) -> bool {
+        match source {
+            FileSource::File(file) => !is_regular(file),
+            FileSource::Input(_) => true,
+        }
+    }
+}
+
+// Whether this is neither a pipe nor a device.
+fn is_regular(file: &<HostRuntime as Files>::File) -> bool {
+    match file.metadata() {
+        Ok(metadata) => metadata.is_file(),
+        Err(_) => false,
     }
 }

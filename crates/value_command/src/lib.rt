@@ -22,5 +22,5 @@ pub use explaining::{explain_refusal, value_message};
 pub use explanation::{About, print_message};
 pub use files::plan_of;
 pub use output::{commit_output, output_of, report_unwritable};
-pub use source_text::read_or_report;
+pub use source_text::{read_or_report, report_unread};
 pub use value::value_of;

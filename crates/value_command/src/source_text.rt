@@ -23,13 +23,28 @@ pub fn read_or_report<R: Eprint + AllocGlobal, S: Sources>(
 {
     match read_text(rt.alloc(), sources, name, limit_bytes) {
         Ok(bytes) => Ok(bytes),
-        Err(ReadFault::Unreadable(fault)) => {
+        Err(fault) => Err(report_unread(rt, name, line, &fault, explains)),
+    }
+}
+
+/// Prints the line of a text that cannot be read, explains it if errors are explained, and returns its status.
+pub fn report_unread<R: Eprint + AllocGlobal>(
+    rt: &R,
+    name: &str,
+    line: &str,
+    fault: &ReadFault,
+    explains: bool,
+) -> ExitStatus
+    ensures { result ≡ Resource }
+{
+    match fault {
+        ReadFault::Unreadable(fault) => {
             let status = print_error(rt, line, ExitStatus::Resource);
             if explains {
-                explain_unreadable(rt, name, &fault, unreadable_file());
+                explain_unreadable(rt, name, fault, unreadable_file());
             }
-            Err(status)
+            status
         }
-        Err(ReadFault::OutOfMemory) => Err(no_memory(rt)),
+        ReadFault::OutOfMemory => no_memory(rt),
     }
 }
