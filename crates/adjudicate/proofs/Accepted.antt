@@ -1,10 +1,9 @@
 -- The accumulators after accepted claims are the opening ones and what the claims add.
-use Rattle.std.proofs.Common.{◌≡◌, ◌<◌, ◌≤◌, ◌+◌, ◌==◌, ℕ, zero, suc, Bool, true, false, cond, List, [], ◌∷◌, ◌++◌, map, flat_map, take, length, get_or, slice_get, fold, Option, Some, None, option_map, option_and_then, inl, inr, refl, sym, ap, ◌∙◌, subst, length-append, eqb-true, arith}
+use Rattle.std.proofs.Common.{◌≡◌, ◌≤◌, ◌+◌, ◌==◌, ℕ, zero, suc, Bool, List, [], ◌∷◌, ◌++◌, flat_map, take, length, slice_get, fold, Option, Some, None, option_and_then, inl, inr, refl, sym, ap, ◌∙◌, eqb-true, arith}
 use Rattle.std.proofs.lemmas.Bool.{cases_Bool}
 use Rattle.std.proofs.lemmas.List.{length_push}
 use Rattle.tables.specs.Plan.{PlanParts}
-use Rattle.settlement.specs.Accounts.{Account, account_of, grown, is_family_year, is_same}
-use Rattle.settlement.specs.Claim.{nothing_yet}
+use Rattle.settlement.specs.Accounts.{Account, account_of, is_family_year, is_same}
 use Rattle.settlement.specs.declared.acc.Acc.{Acc}
 use Rattle.settlement.specs.declared.claim.Claim.{Claim}
 use Rattle.settlement.specs.declared.outcome.Outcome.{Outcome}

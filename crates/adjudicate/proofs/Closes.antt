@@ -1,44 +1,41 @@
 -- The closing balances of a finished run: the opening balances, and what each claim adds.
-use Rattle.std.proofs.Common.{◌≡◌, ◌<◌, ◌≤◌, ◌+◌, ◌-◌, ◌==◌, ℕ, zero, suc, Bool, true, false, cond, List, [], ◌∷◌, ◌++◌, map, flat_map, take, length, get_or, slice_get, fold, Option, Some, None, option_map, option_and_then, inl, inr, refl, sym, ap, ◌∙◌, subst, arith, eq-eqb, length-append}
+use Rattle.std.proofs.Common.{◌≡◌, ◌<◌, ◌≤◌, ◌+◌, ◌==◌, ℕ, zero, suc, List, [], ◌∷◌, ◌++◌, map, flat_map, take, length, get_or, slice_get, fold, Some, None, option_map, option_and_then, refl, sym, ap, ◌∙◌, subst, arith, eq-eqb, length-append}
 use Rattle.std.specs.List.{AllZip, count_by}
-use Rattle.std.proofs.lemmas.Bool.{cases_lt, cond-true}
+use Rattle.std.proofs.lemmas.Bool.{cond-true}
 use Rattle.std.proofs.lemmas.List.{length-map, take_all}
 use Rattle.std.proofs.lemmas.Option.{none-some, same_Some, slice_get-get_or, slice_get_within}
 use Rattle.std.proofs.lemmas.Slice.Zip.{AllZip-long}
-use Rattle.tables.specs.Plan.{PlanParts}
 use Rattle.tables.specs.declared.table.InputData.{InputData}
-use Rattle.settlement.specs.Accounts.{Account, account_of}
+use Rattle.settlement.specs.Accounts.{Account}
 use Rattle.settlement.specs.Opening.{opening}
 use Rattle.settlement.specs.declared.claim.Claim.{Claim}
-use Rattle.settlement.specs.declared.outcome.Outcome.{Outcome}
-use Rattle.intake_csv.specs.Balances.{AreOnce, Entry, accounts_of}
+use Rattle.intake_csv.specs.Balances.{Entry, accounts_of}
 use Rattle.intake_csv.specs.Records.{Fields}
 use Rattle.intake_csv.specs.Rows.{AreRows, AreRowsOf, IsRow, claims_among, is_claim}
 use Rattle.intake_csv.proofs.Handing.{count-row}
 use Rattle.intake_csv.specs.declared.column.Layout.{Layout}
 use Rattle.intake_csv.specs.declared.rows.Row.{Row}
 use Rattle.intake_csv.specs.declared.rows.Row.TheVariants.{Good, Bad}
-use Rattle.journal.specs.Terms.{Terms, claims_in, claims_of}
-use Rattle.journal.specs.Settled.{outcome_of}
+use Rattle.journal.specs.Terms.{Terms, claims_of}
 use Rattle.journal.specs.Events.{Filed, accepted_count, accepts, before, claim_at, claim_filed, claims, noted, places}
 use Rattle.journal.specs.InOrder.{place_of}
-use Rattle.journal.specs.Lawful.{Finished, numbers_below}
+use Rattle.journal.specs.Lawful.{Finished}
 use Rattle.journal.specs.declared.event.Event.{Event}
 use Rattle.journal.proofs.Counts.{claims_known}
 use Rattle.journal.proofs.InOrder.{places_counted}
-use Rattle.claim_gate.specs.Terms.{AreClaimsOf, IsFinishedOver, IsTermsOf, TermsParts}
+use Rattle.claim_gate.specs.Terms.{AreClaimsOf, IsFinishedOver, TermsParts}
 use Rattle.remit.specs.Decided.{decision_at}
 use Rattle.remit.specs.Looked.{LaidOut, found_of, looked_up, positions_of}
 use Rattle.remit.specs.Records.{Deciding}
 use Rattle.remit.specs.Rows.{AreRead}
 use Rattle.remit.specs.declared.decisions.Decisions.{Decisions}
-use Rattle.orders.specs.Order.{outcome_by, settled_by}
+use Rattle.orders.specs.Order.{settled_by}
 use Rattle.orders.proofs.Outcomes.{decided_so}
-use Rattle.adjudicate.specs.Charges.{FilesArePosted, Posts, file_charges, files_charges, plus, totals}
-use Rattle.adjudicate.specs.Closing.{AreClosing, ClosesAt}
+use Rattle.adjudicate.specs.Charges.{FilesArePosted, file_charges, files_charges, plus, totals}
+use Rattle.adjudicate.specs.Closing.{AreClosing}
 use Rattle.adjudicate.specs.Entries.{AreSorted}
 use Rattle.adjudicate.proofs.Accepted.{AreConsecutive, AreNumbered, charges, claims_at, consecutive, file_adds, left}
-use Rattle.adjudicate.proofs.Reordered.{flat_from, flat-same, reordered, run}
+use Rattle.adjudicate.proofs.Reordered.{flat_from, reordered, run}
 use Rattle.adjudicate.proofs.Sorted.{sorted_apart}
 use Rattle.adjudicate.proofs.Totals.{totals_opening}
 

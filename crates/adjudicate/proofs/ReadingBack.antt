@@ -1,15 +1,15 @@
 -- The text of closing balances is read back as these balances.
-use Rattle.std.proofs.Common.{◌≡◌, ◌<◌, ◌≤◌, ◌+◌, ℕ, ℤ, zero, suc, Bool, true, false, List, [], ◌∷◌, ◌++◌, map, length, flat_map, codes, Some, None, refl, sym, ap, ap₂, ◌∙◌, subst, append_assoc, length-append, arith}
+use Rattle.std.proofs.Common.{◌≡◌, ◌+◌, ℕ, ℤ, suc, Bool, true, false, List, [], ◌∷◌, ◌++◌, map, length, Some, None, refl, sym, ap, ◌∙◌, subst, append_assoc, length-append, arith}
 use Rattle.std.specs.List.{AllByRecursion, AllZip}
 use Rattle.std.proofs.lemmas.Option.{none-some, same_Some}
 use Rattle.csv.specs.Machine.{Read, next_record}
-use Rattle.csv.specs.Reading.{AreRecords, Reached, default_config, strip_bom}
+use Rattle.csv.specs.Reading.{Reached, default_config, strip_bom}
 use Rattle.csv.specs.Records.{field_at}
 use Rattle.csv.specs.Writing.{default_writer, escaped, fields_text, is_blank, read_back, row_text}
 use Rattle.csv.specs.declared.parser.State.TheVariants.{StartRecord}
 use Rattle.csv.proofs.RoundTrip.{read-write}
 use Rattle.fixpoint.specs.Money.{MoneyTextDenotes, money_text}
-use Rattle.fixpoint.specs.NumberText.{Denotes, DenotesAtMostOne}
+use Rattle.fixpoint.specs.NumberText.{DenotesAtMostOne}
 use Rattle.feel_tests.specs.Calendar.{year_text}
 use Rattle.feel_tests.specs.declared.value.Value.{Value}
 use Rattle.feel_tests.specs.declared.value.Value.TheVariants.{Number, Text}
@@ -19,11 +19,11 @@ use Rattle.settlement.specs.Amount.{IsAmount}
 use Rattle.settlement.specs.Bindings.{after_family}
 use Rattle.settlement.specs.Opening.{opening}
 use Rattle.settlement.specs.declared.account.Balance.{Balance}
-use Rattle.faults.specs.BuiltInNames.{family_name, member_name, met_name, oop_name, paid_name, year_name}
+use Rattle.faults.specs.BuiltInNames.{member_name, met_name, oop_name, paid_name}
 use Rattle.intake_csv.specs.Balances.{AreBalances, Book, Entry, IsEntry, IsKept, accounts_of, balance_values, entry_values, family_in, year_values}
 use Rattle.intake_csv.specs.Columns.{AreColumnsOf, IsColumnOf, balance_columns, family_columns, required_column, times, year_columns}
 use Rattle.intake_csv.specs.Fields.{Holds}
-use Rattle.intake_csv.specs.Records.{AreRecordsOf, Fields}
+use Rattle.intake_csv.specs.Records.{AreRecordsOf}
 use Rattle.intake_csv.specs.Rows.{HoldsUnder}
 use Rattle.intake_csv.specs.declared.column.Column.{Column}
 use Rattle.intake_csv.specs.declared.column.Content.TheVariants.{Identifier, Money}
@@ -35,8 +35,7 @@ use Rattle.journal.specs.declared.event.Event.{Event}
 use Rattle.claim_gate.specs.Terms.{ForTerms, TermsParts}
 use Rattle.remit.specs.Records.{family_fields, year_fields}
 use Rattle.orders.proofs.Openings.{year-one}
-use Rattle.adjudicate.specs.ReadingBack.{ClosingTextReadsBack}
-use Rattle.adjudicate.specs.ClosingText.{AreWritable, IsClosingText, IsWritable, closing_records, closing_text, entry_fields, records_text}
+use Rattle.adjudicate.specs.ClosingText.{AreWritable, IsClosingText, closing_text, entry_fields, records_text}
 
 -- a record with a field is read as it was written
 abbrev IsFilled : List (List ℕ) → Type 0

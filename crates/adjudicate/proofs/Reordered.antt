@@ -1,14 +1,13 @@
 -- The totals of what claims add do not depend on the order of the claims: position by position they
 -- are those of the providers' claims, provider by provider.
-use Rattle.std.proofs.Common.{◌≡◌, ◌<◌, ◌≤◌, ◌+◌, ◌==◌, ℕ, zero, suc, Bool, true, false, cond, List, [], ◌∷◌, ◌++◌, length, flat_map, slice_get, Some, inl, inr, refl, sym, ap, ◌∙◌, subst, append_assoc, arith, eq-eqb, ne_eqb}
+use Rattle.std.proofs.Common.{◌≡◌, ◌<◌, ◌≤◌, ◌+◌, ◌==◌, ℕ, zero, suc, List, [], ◌∷◌, ◌++◌, length, flat_map, slice_get, Some, inl, inr, refl, sym, ap, ◌∙◌, subst, append_assoc, arith, eq-eqb, ne_eqb}
 use Rattle.std.proofs.lemmas.Bool.{cases_eq, cond-false, cond-true}
 use Rattle.settlement.specs.Accounts.{Account}
-use Rattle.settlement.specs.Claim.{nothing_yet}
 use Rattle.intake_csv.specs.Balances.{Entry}
 use Rattle.journal.specs.Events.{Filed}
 use Rattle.remit.specs.Looked.{positions_from}
 use Rattle.adjudicate.specs.Charges.{plus, totals}
-use Rattle.adjudicate.proofs.Totals.{plus_none, plus_swap, totals_append}
+use Rattle.adjudicate.proofs.Totals.{plus_swap, totals_append}
 
 -- the entries of as many numbers from this one on
 abbrev pub flat_from : ℕ → ℕ → (ℕ → List Entry) → List Entry

@@ -1,5 +1,5 @@
 -- What claims add to accounts, and the totals of entries, in which an account may occur repeatedly.
-use Rattle.std.specs.Prelude.{◌≡◌, ℕ, suc, ℤ, ◌+ℤ◌, Bool, List, [], ◌∷◌, ◌++◌, flat_map, Option, Some, None}
+use Rattle.std.specs.Prelude.{◌≡◌, ℕ, suc, ◌+ℤ◌, Bool, List, [], ◌∷◌, ◌++◌, flat_map, Option, Some, None}
 use Rattle.tables.specs.Plan.{PlanParts}
 use Rattle.settlement.specs.Accounts.{Account, account_of, is_family_year, is_same, part}
 use Rattle.settlement.specs.Claim.{nothing_yet}

@@ -1,10 +1,8 @@
 -- The text of closing balances, read as opening balances, gives the balances back.
 use Rattle.std.specs.Prelude.{◌≡◌, ℕ, List}
-use Rattle.std.specs.List.{AllByRecursion}
 use Rattle.settlement.specs.Accounts.{Account}
-use Rattle.settlement.specs.Amount.{IsAmount}
 use Rattle.settlement.specs.Opening.{opening}
-use Rattle.intake_csv.specs.Balances.{AreBalances, Book, Entry, IsKeptUnder, accounts_of}
+use Rattle.intake_csv.specs.Balances.{AreBalances, Book, accounts_of}
 use Rattle.journal.specs.Events.{accepted_count, before}
 use Rattle.journal.specs.declared.event.Event.{Event}
 use Rattle.claim_gate.specs.Terms.{ForTerms, TermsParts}

@@ -5,7 +5,6 @@ use Rattle.tables.specs.Plan.{PlanParts}
 use Rattle.dtable.specs.PlanFile.{IsPlanText}
 use Rattle.claim_gate.specs.TermsFault.{HasTermsFault}
 use Rattle.claim_gate.specs.Terms.{TermsParts}
-use Rattle.faults.specs.declared.terms_fault.TermsFault.{TermsFault}
 use Rattle.faults.specs.declared.terms_fault.TermsFault.TheVariants as terms
 use Rattle.faults.specs.declared.run_fault.RunFault.{RunFault}
 use Rattle.faults.specs.declared.run_fault.RunFault.TheVariants as run

@@ -1,5 +1,5 @@
 -- The fields of the record for a row, one after another.
-use Rattle.std.proofs.Common.{ℕ, List, [], ◌∷◌, decimal}
+use Rattle.std.proofs.Common.{ℕ, [], ◌∷◌, decimal}
 use Rattle.std.specs.Global.{Vec}
 use Rattle.csv.specs.declared.writer.Writer.{Writer}
 use Rattle.faults.specs.declared.file_fault.RowFault.{RowFault}

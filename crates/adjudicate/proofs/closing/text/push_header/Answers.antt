@@ -1,4 +1,4 @@
-use Rattle.std.proofs.Common.{List, ℕ, OnOk, subst}
+use Rattle.std.proofs.Common.{OnOk, subst}
 use Rattle.remit.specs.Fields.{Pushes}
 use Rattle.remit.proofs.Pushing.{both-pushed-ok}
 use Rattle.adjudicate.proofs.Rendering.{header-names}

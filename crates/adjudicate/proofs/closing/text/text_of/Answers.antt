@@ -1,11 +1,10 @@
-use Rattle.std.proofs.Common.{◌≡◌, [], refl, sym, ap, subst, ◌∙◌, map}
-use Rattle.std.specs.List.{AllByRecursion}
+use Rattle.std.proofs.Common.{[], refl, sym, subst, ◌∙◌, map}
 use Rattle.std.proofs.lemmas.Map.Iter.{rest_all, rest_more}
 use Rattle.std.specs.Map.Iter.{deref_pair}
 use Rattle.csv.specs.Writing.{default_writer}
 use Rattle.intake_csv.specs.Columns.{balance_columns}
 use Rattle.adjudicate.specs.Entries.{entries_of, entry_of_key}
-use Rattle.adjudicate.specs.ClosingText.{AreWritable, closing_text, entry_fields}
+use Rattle.adjudicate.specs.ClosingText.{AreWritable, closing_text}
 use Rattle.adjudicate.proofs.Rendering.{none-rendered, rendered-all, rendered-header, rendered-next, writable-all, writable-next}
 use Rattle.adjudicate.proofs.closing.text.text_of.Goals as goal
 

@@ -1,7 +1,7 @@
 use Rattle.std.proofs.Common.{◌≡◌, sym, subst, ap, ◌∙◌, map}
 use Rattle.settlement.specs.declared.account.Balance.{Balance}
 use Rattle.adjudicate.specs.Charges.{Posts, added}
-use Rattle.adjudicate.specs.Entries.{account_of_key, entries_of, entry_of_key, key_cmp}
+use Rattle.adjudicate.specs.Entries.{entry_of_key, key_cmp}
 use Rattle.std.specs.BTreeMap.{insert_entry}
 use Rattle.adjudicate.proofs.Adding.{one, posted}
 use Rattle.adjudicate.proofs.closing.accounts.ClosingBalances.add.Goals as goal

@@ -1,8 +1,7 @@
-use Rattle.std.proofs.Common.{◌≡◌, ◌≤◌, ◌∙◌, ap, subst, map, take, length}
+use Rattle.std.proofs.Common.{◌≡◌, ◌∙◌, subst, map}
 use Rattle.std.proofs.lemmas.List.{take_all}
-use Rattle.intake_csv.specs.Balances.{Entry, opening_of}
+use Rattle.intake_csv.specs.Balances.{opening_of}
 use Rattle.intake_csv.specs.declared.entry.OpeningEntry.{OpeningEntry}
-use Rattle.settlement.specs.Accounts.{Account}
 use Rattle.adjudicate.specs.Charges.{Posts}
 use Rattle.adjudicate.specs.Entries.{account_of_key, entries_of}
 use Rattle.adjudicate.proofs.Totals.{posts_none}

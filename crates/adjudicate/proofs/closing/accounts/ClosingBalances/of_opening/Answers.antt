@@ -1,6 +1,5 @@
-use Rattle.std.proofs.Common.{◌≡◌, ap, map}
+use Rattle.std.proofs.Common.{ap, map}
 use Rattle.intake_csv.specs.Balances.{opening_of}
-use Rattle.adjudicate.specs.Charges.{Posts}
 use Rattle.adjudicate.specs.Entries.{entries_of, entry_of_key}
 use Rattle.adjudicate.proofs.Sorted.{opened}
 use Rattle.adjudicate.proofs.closing.accounts.ClosingBalances.of_opening.Goals as goal
