@@ -5,7 +5,7 @@ use crate::file_reader::FileReader;
 use claim_gate::Terms;
 use journal::Order;
 
-/// The maximum number of claims of a file in memory, or more where files are given one after another.
+/// The maximum number of claims of a file in memory.
 const CLAIMS_LIMIT: usize = 8_192;
 
 /// By day of service, the maximum number of claims of all files in memory, or more where the files are
@@ -19,8 +19,9 @@ const BYTES_A_CLAIM_IN_ALL: usize = 2_048;
 /// By day of service, the least share of a file. To read 256 claims takes longer than to start a thread.
 const LEAST_SHARE: usize = 256;
 
-/// Where files are given one after another, a claim in memory for as many bytes of the file. One reader
-/// alone is slower than the run, so claims of later files are read while earlier ones are given.
+/// Where files are given one after another, a claim in memory for as many bytes of all files, before no
+/// further file is read ahead. One reader alone is slower than the run, so claims of later files are read
+/// while earlier ones are given.
 const BYTES_A_CLAIM_AHEAD: usize = 512;
 
 /// Where files are given one after another, the least number of claims in memory before no further file
@@ -41,7 +42,7 @@ pub(crate) fn claims_limit(terms: &Terms, readers: &[FileReader<'_>], index: usi
         return share_of(bytes, bytes_of_all(terms));
     };
     if claims_before(terms, readers, index) < claims_ahead(bytes_of_all(terms)) {
-        limit_of_file(bytes)
+        CLAIMS_LIMIT
     } else {
         1
     }
@@ -63,18 +64,13 @@ fn claims_ahead(bytes_of_all: usize) -> usize {
         .min(CLAIMS_AHEAD_LIMIT)
 }
 
-// Returns the limit of a file that is read ahead where files are given one after another.
-fn limit_of_file(bytes: usize) -> usize {
-    CLAIMS_LIMIT.max(bytes / BYTES_A_CLAIM_AHEAD)
-}
-
 // Returns about how many claims the files before an index have in memory if they reach their limits.
 fn claims_before(terms: &Terms, readers: &[FileReader<'_>], index: usize) -> usize {
     let mut claims = 0_usize;
     for earlier in 0..index.min(readers.len()) {
         if !readers[earlier].is_over {
-            let bytes = bytes_of(terms, earlier);
-            claims = claims.saturating_add(limit_of_file(bytes).min(bytes / BYTES_A_RECORD));
+            let in_file = bytes_of(terms, earlier) / BYTES_A_RECORD;
+            claims = claims.saturating_add(in_file.min(CLAIMS_LIMIT));
         }
     }
     claims

@@ -1,4 +1,5 @@
 use Rattle.std.proofs.Common.{◌≡◌, ◌<◌, ◌≤◌, length, false, ap, arith, sym, ◌∙◌}
+use Rattle.std.proofs.lemmas.Grind.{common_steps}
 use Rattle.std.proofs.lemmas.Bool.{false≢true}
 use Rattle.std.proofs.lemmas.Option.{same_Some, slice_get_read}
 use Rattle.ordered_claims.specs.declared.file_reader.FileReader.{FileReader}
@@ -95,3 +96,9 @@ returns-clause-stocked c =
     let moves = c.files.invariant.0 in
     let all_in : length queues.items ≤ c.files.index = omega (arith, c.files-test.false, c.len-index-end.ensures, c.requires.queued.as_many, moves.queued.as_many, c.args.queues.now.ok.0) in
     λ all. stocked_all queues.items c.files.index all_in (c.files.invariant.1 all)
+
+pub index_mut-requires : goal.index_mut-requires
+index_mut-requires c = grind (arith, common_steps)
+
+pub index_mut-requires-in-files : goal.index_mut-requires-in-files
+index_mut-requires-in-files c = grind (arith, common_steps)

@@ -1,4 +1,5 @@
-use Rattle.std.proofs.Common.{refl, ◌∙◌}
+use Rattle.std.proofs.Common.{refl, ◌∙◌, arith}
+use Rattle.std.proofs.lemmas.Grind.{common_steps}
 use Rattle.ordered_claims.proofs.Reading.{reads_failed, reads_further, reads_nothing}
 use Rattle.ordered_claims.proofs.file_reader.FileReader.read_ahead.Goals as goal
 
@@ -11,3 +12,6 @@ claims-preserved c =
 
 pub returns-in_default : goal.returns-in_default
 returns-in_default c = reads_failed c.args.self.now _ (c.read_next.ensures.taken ∙ c.claims.invariant.taken) refl
+
+pub read_next-requires-clause-placed : goal.read_next-requires-clause-placed
+read_next-requires-clause-placed c = grind (arith, common_steps)

@@ -1,4 +1,5 @@
 use Rattle.std.proofs.Common.{◌≡◌, ◌<◌, ◌+◌, true, refl, ap, arith, rules, sym, subst, ◌∙◌}
+use Rattle.std.proofs.lemmas.Grind.{common_steps}
 use Rattle.std.specs.List.{slice_set}
 use Rattle.std.proofs.lemmas.List.{length-set}
 use Rattle.std.proofs.lemmas.Option.{same_Some, slice_get_read}
@@ -68,3 +69,12 @@ returns c =
     rw (← c.self.view_is)
     (offers i.terms.now i.files.items kept head old c.give-claim.new.self c.give-claim.result first there c.give-claim.ensures
     (head.index + 1) c.index.result.now.given (omega arith) (ap (λ (f : FileQueue). f.given) same))
+
+pub index-requires : goal.index-requires
+index-requires c = grind (arith, common_steps)
+
+pub index_mut-requires : goal.index_mut-requires
+index_mut-requires c = grind (arith, common_steps)
+
+pub index-requires-2 : goal.index-requires-2
+index-requires-2 c = grind (arith, common_steps)

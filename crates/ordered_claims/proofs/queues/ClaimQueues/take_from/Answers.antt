@@ -1,4 +1,5 @@
-use Rattle.std.proofs.Common.{subst, sym}
+use Rattle.std.proofs.Common.{subst, sym, arith}
+use Rattle.std.proofs.lemmas.Grind.{common_steps}
 use Rattle.std.proofs.lemmas.Bool.{false≢true}
 use Rattle.ordered_claims.specs.Kept.{IsReading}
 use Rattle.ordered_claims.proofs.queues.ClaimQueues.take_from.Goals as goal
@@ -25,3 +26,6 @@ take_each-requires-clause-queued c = record {
   stocked = λ is. absurd (false≢true is);
   given = c.self.invariant.given;
 }
+
+pub returns : goal.returns
+returns c = grind (arith, common_steps)

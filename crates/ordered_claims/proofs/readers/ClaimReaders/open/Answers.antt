@@ -1,4 +1,5 @@
 use Rattle.std.proofs.Common.{◌≡◌, [], ap, arith, length, rules}
+use Rattle.std.proofs.lemmas.Grind.{common_steps}
 use Rattle.std.proofs.lemmas.List.{length-map}
 use Rattle.ordered_claims.proofs.Keeping.{opened_all, opened_more, opened_none, opened_taken}
 use Rattle.ordered_claims.proofs.readers.ClaimReaders.open.Goals as goal
@@ -26,3 +27,9 @@ returns-clause-none c =
     let size = length-map c.files-place-end.result.now (λ f. f.now) in
     let all : c.files.place ≡ length c.args.terms.now.files = omega (arith, texts, size, c.files.auto.place-end, c.files-test.false) in
     opened_taken c.args.terms.now c.files.place c.files.files.items c.files.invariant all
+
+pub overflow_add-place : goal.overflow_add-place
+overflow_add-place c = grind (arith, common_steps)
+
+pub open-requires-clause-most : goal.open-requires-clause-most
+open-requires-clause-most c = grind (arith, common_steps)

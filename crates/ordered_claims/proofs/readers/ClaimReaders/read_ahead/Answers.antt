@@ -1,4 +1,5 @@
-use Rattle.std.proofs.Common.{ap, subst, sym, ◌∙◌}
+use Rattle.std.proofs.Common.{ap, subst, sym, ◌∙◌, arith}
+use Rattle.std.proofs.lemmas.Grind.{common_steps}
 use Rattle.ordered_claims.specs.Kept.{IsReading, taken_in}
 use Rattle.ordered_claims.proofs.Lists.{written_back}
 use Rattle.ordered_claims.proofs.Moving.{all_placed, reads_all, taken_by_all}
@@ -23,3 +24,6 @@ returns-clause-taken g c =
 
 pub read_each-requires-clause-placed : goal.read_each-requires-clause-placed
 read_each-requires-clause-placed g c κs within = rw c.as_mut_slice.ensures.value (all_placed c.self.inside.terms.now c.self.inside.files.items c.self.invariant)
+
+pub returns-clause-terms : goal.returns-clause-terms
+returns-clause-terms c = grind (arith, common_steps)

@@ -1,4 +1,5 @@
 use Rattle.std.proofs.Common.{◌<◌, arith}
+use Rattle.std.proofs.lemmas.Grind.{common_steps, elements}
 use Rattle.std.proofs.lemmas.Option.{slice_get_read}
 use Rattle.ordered_claims.proofs.Moving.{reads_one, taken_by_one}
 use Rattle.ordered_claims.proofs.readers.ClaimReaders.read_next_of.Goals as goal
@@ -38,3 +39,21 @@ returns-clause-taken c =
     let within : c.args.index < files.len = omega (arith, asked, c.self.invariant.as_many, files.ok.0) in
     let there = slice_get_read files.items files.len c.args.index old files.ok.0 within c.index_mut.ensures.value in
     rw (← c.self.view_is) (taken_by_one files.items c.args.index old c.read_ahead.new.self there c.read_ahead.ensures)
+
+pub returns-clause-terms : goal.returns-clause-terms
+returns-clause-terms c = grind (arith, common_steps)
+
+pub returns-clause-fewer : goal.returns-clause-fewer
+returns-clause-fewer c = grind (arith, common_steps)
+
+pub index-requires : goal.index-requires
+index-requires c = grind (arith, common_steps)
+
+pub read_ahead-requires : goal.read_ahead-requires
+read_ahead-requires c = grind (arith, elements)
+
+pub index_mut-requires : goal.index_mut-requires
+index_mut-requires c = grind (arith, common_steps)
+
+pub returns-then-index-clause-terms : goal.returns-then-index-clause-terms
+returns-then-index-clause-terms c = grind (arith, common_steps)
