@@ -1,3 +1,5 @@
+use Rattle.std.proofs.Common.{arith}
+use Rattle.std.proofs.lemmas.Grind.{common_steps}
 use Rattle.commands.proofs.Statuses.{audit_done, audit_refused, unread_audit_refused, unread_not_done}
 use Rattle.commands.proofs.auditing.audit_of.Goals as goal
 
@@ -16,3 +18,9 @@ pub returns-in-Ok-remittance_of-clause-refused : goal.returns-in-Ok-remittance_o
 returns-in-Ok-remittance_of-clause-refused g c =
     audit_refused _ _ c.in-Ok.texts c.in-Ok-remittance_of.remittance.items c.audit_texts.result c.in-Ok.ensures.named
     c.in-Ok-remittance_of.ensures.named (rw c.as_slice.ensures.value at c.audit_texts.ensures.refused)
+
+pub returns-clause-refused : goal.returns-clause-refused
+returns-clause-refused c = grind (arith, common_steps)
+
+pub returns-clause-done : goal.returns-clause-done
+returns-clause-done c = grind (arith, common_steps)

@@ -1,4 +1,5 @@
-use Rattle.std.proofs.Common.{rules, inl, inr}
+use Rattle.std.proofs.Common.{rules, inl, inr, arith}
+use Rattle.std.proofs.lemmas.Grind.{common_steps}
 use Rattle.commands.proofs.CommandEnds.{plan_ends, plan_ends_refused}
 use Rattle.commands.proofs.commands.command.Goals as goal
 
@@ -13,3 +14,24 @@ returns-2-clause-done g c = plan_ends _ _ c.plan_command.result c.plan_command.e
 
 pub returns-2-clause-refused : goal.returns-2-clause-refused
 returns-2-clause-refused g c = plan_ends_refused _ _ c.plan_command.result c.plan_command.ensures.refused
+
+pub returns-in-Some-subcommand_matches-clause-done : goal.returns-in-Some-subcommand_matches-clause-done
+returns-in-Some-subcommand_matches-clause-done c = grind (arith, common_steps)
+
+pub returns-in-Some-subcommand_matches-2-clause-refused : goal.returns-in-Some-subcommand_matches-2-clause-refused
+returns-in-Some-subcommand_matches-2-clause-refused c = grind (arith, common_steps)
+
+pub returns-in-Some-clause-refused : goal.returns-in-Some-clause-refused
+returns-in-Some-clause-refused c = grind (arith, common_steps)
+
+pub returns-in-Some-subcommand_matches-3-clause-done : goal.returns-in-Some-subcommand_matches-3-clause-done
+returns-in-Some-subcommand_matches-3-clause-done c = grind (arith, common_steps)
+
+pub returns-in-Some-subcommand_matches-clause-refused : goal.returns-in-Some-subcommand_matches-clause-refused
+returns-in-Some-subcommand_matches-clause-refused c = grind (arith, common_steps)
+
+pub returns-in-Some-subcommand_matches-2-clause-done : goal.returns-in-Some-subcommand_matches-2-clause-done
+returns-in-Some-subcommand_matches-2-clause-done c = grind (arith, common_steps)
+
+pub returns-in-Some-clause-done : goal.returns-in-Some-clause-done
+returns-in-Some-clause-done c = grind (arith, common_steps)

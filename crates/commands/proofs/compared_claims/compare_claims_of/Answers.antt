@@ -1,3 +1,5 @@
+use Rattle.std.proofs.Common.{arith}
+use Rattle.std.proofs.lemmas.Grind.{common_steps}
 use Rattle.commands.proofs.Statuses.{comparison_done, comparison_refused, unread_comparison_refused, unread_not_done}
 use Rattle.commands.proofs.compared_claims.compare_claims_of.Goals as goal
 
@@ -16,3 +18,15 @@ pub returns-in-Ok-old_plan_of-clause-refused : goal.returns-in-Ok-old_plan_of-cl
 returns-in-Ok-old_plan_of-clause-refused g c =
     comparison_refused _ _ c.in-Ok.texts c.in-Ok-old_plan_of.old.items c.compare_texts.result c.in-Ok.ensures.named
     c.in-Ok-old_plan_of.ensures.named (rw c.as_slice.ensures.value at c.compare_texts.ensures.refused)
+
+pub returns-then-is_some-clause-done : goal.returns-then-is_some-clause-done
+returns-then-is_some-clause-done c = grind (arith, common_steps)
+
+pub returns-then-is_some-clause-refused : goal.returns-then-is_some-clause-refused
+returns-then-is_some-clause-refused c = grind (arith, common_steps)
+
+pub returns-clause-done : goal.returns-clause-done
+returns-clause-done c = grind (arith, common_steps)
+
+pub returns-clause-refused : goal.returns-clause-refused
+returns-clause-refused c = grind (arith, common_steps)

@@ -1,3 +1,5 @@
+use Rattle.std.proofs.Common.{arith}
+use Rattle.std.proofs.lemmas.Grind.{common_steps}
 use Rattle.commands.proofs.Explanations.{explain_done, explain_refused, unread_explain_refused}
 use Rattle.commands.proofs.Statuses.{unread_not_done}
 use Rattle.commands.proofs.explained.explain_of.Goals as goal
@@ -13,3 +15,12 @@ returns-in-Ok-clause-done g c = explain_done _ _ c.in-Some.asked c.in-Ok.texts _
 
 pub returns-in-Ok-clause-refused : goal.returns-in-Ok-clause-refused
 returns-in-Ok-clause-refused g c = explain_refused _ _ c.in-Some.asked c.in-Ok.texts _ c.in-Some.ensures.asked c.in-Ok.ensures.named c.explain_texts.ensures.refused
+
+pub returns-in_default-clause-refused : goal.returns-in_default-clause-refused
+returns-in_default-clause-refused c = grind (arith, common_steps)
+
+pub explain_texts-requires : goal.explain_texts-requires
+explain_texts-requires c = grind (arith, common_steps)
+
+pub returns-in_default-clause-done : goal.returns-in_default-clause-done
+returns-in_default-clause-done c = grind (arith, common_steps)

@@ -1,4 +1,5 @@
-use Rattle.std.proofs.Common.{inl}
+use Rattle.std.proofs.Common.{inl, arith}
+use Rattle.std.proofs.lemmas.Grind.{common_steps}
 use Rattle.adjudicate.specs.RunText.{run_texts}
 use Rattle.commands.proofs.Ends.{closing_refused, refused_by_system}
 use Rattle.commands.proofs.run.run_and_close.Goals as goal
@@ -8,3 +9,12 @@ returns-in-Err-clause-refused g c = λ not_done. inl (refused_by_system (run_tex
 
 pub returns-in-Done-clause-refused : goal.returns-in-Done-clause-refused
 returns-in-Done-clause-refused g c = λ not_done. inl (closing_refused (run_texts c.args.input) c.args.input.workers c.put_further.result c.put_further.ensures not_done)
+
+pub returns-in-Done-clause-done : goal.returns-in-Done-clause-done
+returns-in-Done-clause-done c = grind (arith, common_steps)
+
+pub returns-in-Err-clause-done : goal.returns-in-Err-clause-done
+returns-in-Err-clause-done c = grind (arith, common_steps)
+
+pub returns-in_default : goal.returns-in_default
+returns-in_default c = grind (arith, common_steps)

@@ -1,4 +1,5 @@
 use Rattle.std.proofs.Common.{◌≤◌, ◌+◌, length, refl, sym, ap, subst, ◌∙◌, arith}
+use Rattle.std.proofs.lemmas.Grind.{common_steps}
 use Rattle.std.proofs.lemmas.List.{length-map}
 use Rattle.claim_gate.specs.Replies.{HasClaims}
 use Rattle.claim_gate.specs.Terms.{ForTerms, TermsParts}
@@ -60,3 +61,9 @@ given_count-count-requires-clause-most g c =
     let files = ap length c.files-files.ensures.files in
     let same = ap (λ (t : TermsParts). length t.files) c.requires.all.at.of_terms in
     omega (arith, c.providers-test.true, size, files, same)
+
+pub returns-in-Err-clause-goes_on : goal.returns-in-Err-clause-goes_on
+returns-in-Err-clause-goes_on c = grind (arith, common_steps)
+
+pub returns-in-Err-clause-past : goal.returns-in-Err-clause-past
+returns-in-Err-clause-past c = grind (arith, common_steps)

@@ -1,4 +1,5 @@
-use Rattle.std.proofs.Common.{refl}
+use Rattle.std.proofs.Common.{refl, arith}
+use Rattle.std.proofs.lemmas.Grind.{common_steps}
 use Rattle.crew.proofs.Offers.{all_offered, offer_due, offer_filed, offer_taken, one_offered, stays_between}
 use Rattle.crew.proofs.Passes.{unchanged}
 use Rattle.crew.proofs.acceptor.offer_next.Goals as goal
@@ -49,3 +50,24 @@ returns-clause-step g c =
     let next = rw c.in-Some.is at c.in-Ok.ensures.next in
     one_offered c.args.shared.now.terms.now (g.G.Gate.known c.args.pass).seen c.args.claims.now c.next.new.self c.in-Given.offered gives.0 c.requires.at gives.1
     (g.G.Gate.known c.in-Ok.onward.pass).seen c.in-Some.field-0 c.in-Ok.ensures.goes_on.seen next
+
+pub returns-in_default-clause-goes_on : goal.returns-in_default-clause-goes_on
+returns-in_default-clause-goes_on c = grind (arith, common_steps)
+
+pub returns-in-Err-clause-step : goal.returns-in-Err-clause-step
+returns-in-Err-clause-step c = grind (arith, common_steps)
+
+pub returns-clause-goes_on : goal.returns-clause-goes_on
+returns-clause-goes_on c = grind (arith, common_steps)
+
+pub returns-in-Err-clause-leaves : goal.returns-in-Err-clause-leaves
+returns-in-Err-clause-leaves c = grind (arith, common_steps)
+
+pub returns-in-Err-clause-goes_on : goal.returns-in-Err-clause-goes_on
+returns-in-Err-clause-goes_on c = grind (arith, common_steps)
+
+pub returns-clause-leaves : goal.returns-clause-leaves
+returns-clause-leaves c = grind (arith, common_steps)
+
+pub returns-in_default-clause-leaves : goal.returns-in_default-clause-leaves
+returns-in_default-clause-leaves c = grind (arith, common_steps)

@@ -1,4 +1,5 @@
 use Rattle.std.proofs.Common.{refl, ◌∙◌, arith}
+use Rattle.std.proofs.lemmas.Grind.{common_steps}
 use Rattle.crew.proofs.Offers.{step_after, still_at}
 use Rattle.crew.proofs.Passes.{further, leaves_later, unchanged}
 use Rattle.crew.proofs.acceptor.offer_turn.Goals as goal
@@ -60,3 +61,21 @@ returns-clause-goes_on g c = c.offers.invariant.0
 
 pub returns-clause-step : goal.returns-clause-step
 returns-clause-step g c = record { between = record { at = c.offers.invariant.1; read = c.offers.invariant.3 }; fewer = omega (arith, c.offers.invariant.2) }
+
+pub returns-in_default-clause-leaves : goal.returns-in_default-clause-leaves
+returns-in_default-clause-leaves c = grind (arith, common_steps)
+
+pub returns-in-Err-clause-step : goal.returns-in-Err-clause-step
+returns-in-Err-clause-step c = grind (arith, common_steps)
+
+pub returns-in-Err-offer_next-clause-goes_on : goal.returns-in-Err-offer_next-clause-goes_on
+returns-in-Err-offer_next-clause-goes_on c = grind (arith, common_steps)
+
+pub fetch_upcoming-requires-clause-own : goal.fetch_upcoming-requires-clause-own
+fetch_upcoming-requires-clause-own c = grind (arith, common_steps)
+
+pub returns-in-Err-offer_next-clause-step : goal.returns-in-Err-offer_next-clause-step
+returns-in-Err-offer_next-clause-step c = grind (arith, common_steps)
+
+pub returns-in-Err-clause-goes_on : goal.returns-in-Err-clause-goes_on
+returns-in-Err-clause-goes_on c = grind (arith, common_steps)

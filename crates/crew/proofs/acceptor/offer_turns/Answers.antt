@@ -1,4 +1,5 @@
-use Rattle.std.proofs.Common.{refl, ◌∙◌}
+use Rattle.std.proofs.Common.{refl, ◌∙◌, arith}
+use Rattle.std.proofs.lemmas.Grind.{common_steps}
 use Rattle.crew.proofs.Passes.{further, leaves_later, unchanged}
 use Rattle.crew.proofs.acceptor.offer_turns.Goals as goal
 
@@ -62,3 +63,21 @@ returns-in-Leave-clause-goes_on g c =
 
 pub returns-in-Leave-clause-offered : goal.returns-in-Leave-clause-offered
 returns-in-Leave-clause-offered g c = rw c.in-Leave.is at c.in-Ok.ensures.step
+
+pub returns-then-ends_round-clause-leaves : goal.returns-then-ends_round-clause-leaves
+returns-then-ends_round-clause-leaves c = grind (arith, common_steps)
+
+pub returns-in-Err-clause-goes_on : goal.returns-in-Err-clause-goes_on
+returns-in-Err-clause-goes_on c = grind (arith, common_steps)
+
+pub returns-in-Err-clause-offered : goal.returns-in-Err-clause-offered
+returns-in-Err-clause-offered c = grind (arith, common_steps)
+
+pub returns-in-Leave-clause-leaves : goal.returns-in-Leave-clause-leaves
+returns-in-Leave-clause-leaves c = grind (arith, common_steps)
+
+pub returns-in-ReadOn-clause-leaves : goal.returns-in-ReadOn-clause-leaves
+returns-in-ReadOn-clause-leaves c = grind (arith, common_steps)
+
+pub returns-in-EndProviders-clause-leaves : goal.returns-in-EndProviders-clause-leaves
+returns-in-EndProviders-clause-leaves c = grind (arith, common_steps)

@@ -1,4 +1,5 @@
-use Rattle.std.proofs.Common.{refl, ◌∙◌}
+use Rattle.std.proofs.Common.{refl, ◌∙◌, arith}
+use Rattle.std.proofs.lemmas.Grind.{common_steps}
 use Rattle.std.proofs.lemmas.Bool.{false≢true, or_left}
 use Rattle.journal.specs.Events.{has_end}
 use Rattle.crew.specs.Sharing.{is_shut}
@@ -93,3 +94,36 @@ returns-in-Shut-clause-past g c provider least most =
     let after = (g.G.Gate.known c.in-Ok-onward.onward.pass).seen in
     let offered = rw c.in-Ok-onward.is at c.offer_while_reading-read.ensures.offered in
     or_left (is_shut after) (has_end after.journal provider) (rw c.in-Shut.is at offered)
+
+pub returns-in_default-clause-past : goal.returns-in_default-clause-past
+returns-in_default-clause-past c = grind (arith, common_steps)
+
+pub take_from-requires-clause-joined : goal.take_from-requires-clause-joined
+take_from-requires-clause-joined c = grind (arith, common_steps)
+
+pub offer_while_reading-read-requires-clause-own : goal.offer_while_reading-read-requires-clause-own
+offer_while_reading-read-requires-clause-own c = grind (arith, common_steps)
+
+pub returns-in-Err-onward-clause-goes_on : goal.returns-in-Err-onward-clause-goes_on
+returns-in-Err-onward-clause-goes_on c = grind (arith, common_steps)
+
+pub loop-init-derived : goal.loop-init-derived
+loop-init-derived c = grind (arith, common_steps)
+
+pub returns-in_default-clause-goes_on : goal.returns-in_default-clause-goes_on
+returns-in_default-clause-goes_on c = grind (arith, common_steps)
+
+pub take_from-requires-clause-terms : goal.take_from-requires-clause-terms
+take_from-requires-clause-terms c = grind (arith, common_steps)
+
+pub offer_while_reading-read-requires-clause-threads : goal.offer_while_reading-read-requires-clause-threads
+offer_while_reading-read-requires-clause-threads c = grind (arith, common_steps)
+
+pub unreachable-unreachable : goal.unreachable-unreachable
+unreachable-unreachable c = grind (arith, common_steps)
+
+pub returns-in-Shut-clause-leaves : goal.returns-in-Shut-clause-leaves
+returns-in-Shut-clause-leaves c = grind (arith, common_steps)
+
+pub returns-in-Err-onward-clause-past : goal.returns-in-Err-onward-clause-past
+returns-in-Err-onward-clause-past c = grind (arith, common_steps)

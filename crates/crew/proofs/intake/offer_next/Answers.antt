@@ -1,4 +1,5 @@
-use Rattle.std.proofs.Common.{refl, ◌∙◌}
+use Rattle.std.proofs.Common.{refl, ◌∙◌, arith}
+use Rattle.std.proofs.lemmas.Grind.{common_steps}
 use Rattle.crew.proofs.Offers.{due_in_any}
 use Rattle.crew.proofs.Passes.{leaves_for_memory, unchanged}
 use Rattle.crew.proofs.intake.offer_next.Goals as goal
@@ -68,3 +69,6 @@ returns-clause-step g c =
       same = to.same;
       fewer = to.fewer;
     }
+
+pub returns-in-Err-offer-clause-leaves : goal.returns-in-Err-offer-clause-leaves
+returns-in-Err-offer-clause-leaves c = grind (arith, common_steps)

@@ -1,4 +1,5 @@
 use Rattle.std.proofs.Common.{refl, ◌∙◌, arith}
+use Rattle.std.proofs.lemmas.Grind.{common_steps}
 use Rattle.crew.proofs.Passes.{further, leaves_later, unchanged}
 use Rattle.crew.proofs.intake.offer_turn.Goals as goal
 
@@ -54,3 +55,15 @@ returns-clause-goes_on g c = c.records.invariant.0
 
 pub returns-clause-step : goal.returns-clause-step
 returns-clause-step g c = record { at = c.records.invariant.1; same = c.records.invariant.2; fewer = omega (arith, c.records.invariant.3) }
+
+pub returns-in-Leave-clause-leaves : goal.returns-in-Leave-clause-leaves
+returns-in-Leave-clause-leaves c = grind (arith, common_steps)
+
+pub returns-in-Err-clause-step : goal.returns-in-Err-clause-step
+returns-in-Err-clause-step c = grind (arith, common_steps)
+
+pub returns-in-EndProvider-clause-leaves : goal.returns-in-EndProvider-clause-leaves
+returns-in-EndProvider-clause-leaves c = grind (arith, common_steps)
+
+pub returns-in-Err-clause-goes_on : goal.returns-in-Err-clause-goes_on
+returns-in-Err-clause-goes_on c = grind (arith, common_steps)

@@ -1,4 +1,5 @@
-use Rattle.std.proofs.Common.{◌≡◌, ◌<◌, ◌^◌, refl, rules}
+use Rattle.std.proofs.Common.{◌≡◌, ◌<◌, ◌^◌, refl, rules, arith}
+use Rattle.std.proofs.lemmas.Grind.{common_steps}
 use Rattle.crew.proofs.Lefts.{after_last, after_refused, room, skipped, spared, to_offer}
 use Rattle.crew.proofs.intake.read_record.Goals as goal
 
@@ -34,3 +35,6 @@ returns c terms seen h =
     let claim : c.in_ok-claim.claim ≡ c.in-Good.claim = c.in_ok-claim.ensures.value in
     rw claim (to_offer c.given_row_has_the_claim.ensures c.args.intake.now base c.next_in_spare.new.self c.in-Good.number c.in-Good.place c.in-Good.claim some terms seen small
     c.if-place-intake.false h)
+
+pub overflow_add-intake : goal.overflow_add-intake
+overflow_add-intake c = grind (arith, common_steps)

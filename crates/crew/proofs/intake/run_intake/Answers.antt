@@ -1,4 +1,5 @@
 use Rattle.std.proofs.Common.{◌<◌, ap, length, refl, subst, ◌∙◌, arith}
+use Rattle.std.proofs.lemmas.Grind.{common_steps}
 use Rattle.std.proofs.lemmas.Bool.{or_left}
 use Rattle.journal.specs.Events.{has_end}
 use Rattle.crew.specs.Sharing.{is_shut}
@@ -92,3 +93,15 @@ pub turns-smaller : goal.turns-smaller
 turns-smaller g c =
     let read = rw c.in-NextRecord.is at c.in-Ok-offer_turn.ensures.step in
     subst (λ k. length c.offer_turn.new.intake.rows.records < k) (ap (λ intake. length intake.rows.records) c.take_spare.ensures) read.fewer
+
+pub returns-in-EndProvider-clause-past : goal.returns-in-EndProvider-clause-past
+returns-in-EndProvider-clause-past c = grind (arith, common_steps)
+
+pub returns-in-Leave-clause-leaves : goal.returns-in-Leave-clause-leaves
+returns-in-Leave-clause-leaves c = grind (arith, common_steps)
+
+pub returns-in-Err-offer_turn-clause-goes_on : goal.returns-in-Err-offer_turn-clause-goes_on
+returns-in-Err-offer_turn-clause-goes_on c = grind (arith, common_steps)
+
+pub returns-in-Err-offer_turn-clause-past : goal.returns-in-Err-offer_turn-clause-past
+returns-in-Err-offer_turn-clause-past c = grind (arith, common_steps)

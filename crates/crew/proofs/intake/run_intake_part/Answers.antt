@@ -1,4 +1,5 @@
 use Rattle.std.proofs.Common.{refl, arith}
+use Rattle.std.proofs.lemmas.Grind.{common_steps}
 use Rattle.crew.proofs.Passes.{unchanged}
 use Rattle.crew.proofs.intake.run_intake_part.Goals as goal
 
@@ -15,3 +16,27 @@ returns-then-number-ne0 g c = record {
   goes_on = unchanged (g.G.Gate.has_pass c.args.shared.now.gate.now) g.G.Gate.known c.args.pass c.args.pass c.requires.own refl;
   leaves = tt;
 }
+
+pub returns-in_default : goal.returns-in_default
+returns-in_default c = grind (arith, common_steps)
+
+pub run_acceptor-requires-clause-terms : goal.run_acceptor-requires-clause-terms
+run_acceptor-requires-clause-terms c = grind (arith, common_steps)
+
+pub run_intake-requires-clause-terms : goal.run_intake-requires-clause-terms
+run_intake-requires-clause-terms c = grind (arith, common_steps)
+
+pub run_intake-requires-clause-own : goal.run_intake-requires-clause-own
+run_intake-requires-clause-own c = grind (arith, common_steps)
+
+pub run_acceptor-requires-clause-own : goal.run_acceptor-requires-clause-own
+run_acceptor-requires-clause-own c = grind (arith, common_steps)
+
+pub returns-clause-goes_on : goal.returns-clause-goes_on
+returns-clause-goes_on c = grind (arith, common_steps)
+
+pub run_intake-requires-clause-most : goal.run_intake-requires-clause-most
+run_intake-requires-clause-most c = grind (arith, common_steps)
+
+pub returns-clause-leaves : goal.returns-clause-leaves
+returns-clause-leaves c = grind (arith, common_steps)

@@ -1,4 +1,5 @@
 use Rattle.std.proofs.Common.{refl, ◌∙◌, arith}
+use Rattle.std.proofs.lemmas.Grind.{common_steps}
 use Rattle.crew.proofs.Passes.{after_section, leaves_for_memory, section_later, unchanged, worn_later}
 use Rattle.crew.proofs.Sections.{already_past, closed_shut, ends_past, no_fewer, none_lacks, shut_past, stopped_shut}
 use Rattle.crew.proofs.offering.end.Goals as goal
@@ -83,3 +84,21 @@ returns-in-Err-Stopped-clause-past g c =
     let reply = rw (c.in-Err-Stopped.is, reported) at c.in-Ok.ensures.reply in
     shut_past c.args.shared.now.terms.now c.claim_lists_exist.ensures before after c.tries.invariant.1 c.in-Ok.ensures.served.section c.args.provider
     (stopped_shut c.args.shared.now.terms.now c.claim_lists_exist.ensures before after c.tries.invariant.1 c.in-Ok.ensures.served.section reply)
+
+pub returns-in-Err-Closed-clause-leaves : goal.returns-in-Err-Closed-clause-leaves
+returns-in-Err-Closed-clause-leaves c = grind (arith, common_steps)
+
+pub returns-in-Err-clause-past : goal.returns-in-Err-clause-past
+returns-in-Err-clause-past c = grind (arith, common_steps)
+
+pub returns-in-Err-clause-goes_on : goal.returns-in-Err-clause-goes_on
+returns-in-Err-clause-goes_on c = grind (arith, common_steps)
+
+pub returns-in-Ok-reply-clause-leaves : goal.returns-in-Ok-reply-clause-leaves
+returns-in-Ok-reply-clause-leaves c = grind (arith, common_steps)
+
+pub returns-in-Err-AlreadyEnded-clause-leaves : goal.returns-in-Err-AlreadyEnded-clause-leaves
+returns-in-Err-AlreadyEnded-clause-leaves c = grind (arith, common_steps)
+
+pub returns-in-Err-Stopped-clause-leaves : goal.returns-in-Err-Stopped-clause-leaves
+returns-in-Err-Stopped-clause-leaves c = grind (arith, common_steps)

@@ -1,4 +1,5 @@
 use Rattle.std.proofs.Common.{refl, sym, subst, ◌∙◌, arith}
+use Rattle.std.proofs.lemmas.Grind.{common_steps}
 use Rattle.crew.proofs.Passes.{after_section, leaves_for_memory, section_later, unchanged, worn_later}
 use Rattle.crew.proofs.Sections.{accepts_on, closed_to, goes_on, no_fewer, stopped_to}
 use Rattle.claim_gate.proofs.Sharing.{due_stays}
@@ -79,3 +80,30 @@ offer-requires-clause-due g c =
     let seen = (g.G.Gate.known c.tries.pass).seen in
     let due = due_stays (g.G.Gate.known c.args.pass).seen seen c.args.offer.provider c.args.offer.place c.tries.invariant.0.seen c.requires.due in
     subst (λ (o : Offer). IsDueAt seen o.provider o.place) (sym c.tries.invariant.2) due
+
+pub returns-in-Err-clause-goes_on : goal.returns-in-Err-clause-goes_on
+returns-in-Err-clause-goes_on c = grind (arith, common_steps)
+
+pub offer-requires-clause-own : goal.offer-requires-clause-own
+offer-requires-clause-own c = grind (arith, common_steps)
+
+pub returns-in-OutOfTurn-clause-leaves : goal.returns-in-OutOfTurn-clause-leaves
+returns-in-OutOfTurn-clause-leaves c = grind (arith, common_steps)
+
+pub returns-in-Ok-reply-clause-leaves : goal.returns-in-Ok-reply-clause-leaves
+returns-in-Ok-reply-clause-leaves c = grind (arith, common_steps)
+
+pub returns-in-Closed-clause-leaves : goal.returns-in-Closed-clause-leaves
+returns-in-Closed-clause-leaves c = grind (arith, common_steps)
+
+pub returns-in-Err-clause-next : goal.returns-in-Err-clause-next
+returns-in-Err-clause-next c = grind (arith, common_steps)
+
+pub returns-clause-next : goal.returns-clause-next
+returns-clause-next c = grind (arith, common_steps)
+
+pub returns-in-Stopped-clause-leaves : goal.returns-in-Stopped-clause-leaves
+returns-in-Stopped-clause-leaves c = grind (arith, common_steps)
+
+pub returns-clause-goes_on : goal.returns-clause-goes_on
+returns-clause-goes_on c = grind (arith, common_steps)

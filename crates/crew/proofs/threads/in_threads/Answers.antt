@@ -4,3 +4,12 @@ use Rattle.crew.proofs.threads.in_threads.Goals as goal
 
 pub scoped-requires : goal.scoped-requires
 scoped-requires g c = grind (arith, common_steps)
+
+pub returns-clause-leaves : goal.returns-clause-leaves
+returns-clause-leaves c = grind (arith, common_steps)
+
+pub returns-clause-goes_on : goal.returns-clause-goes_on
+returns-clause-goes_on c = grind (arith, common_steps)
+
+pub returns-clause-finished : goal.returns-clause-finished
+returns-clause-finished c = grind (arith, common_steps)

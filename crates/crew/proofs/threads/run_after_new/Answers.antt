@@ -1,4 +1,5 @@
-use Rattle.std.proofs.Common.{◌≡◌, ◌++◌, sym, ap, subst, ◌∙◌, append-nil}
+use Rattle.std.proofs.Common.{◌≡◌, ◌++◌, sym, ap, subst, ◌∙◌, append-nil, arith}
+use Rattle.std.proofs.lemmas.Grind.{common_steps}
 use Rattle.journal.specs.Gate.{LeadsTo}
 use Rattle.journal.specs.Laws.{FinishedIsFinal}
 use Rattle.journal.specs.Lawful.{Finished, Lawful}
@@ -30,3 +31,24 @@ returns-in-Ok-retire-clause-finished g c =
 
 pub returns-clause-fault : goal.returns-clause-fault
 returns-clause-fault g c = worn_not_workers
+
+pub returns-clause-terms : goal.returns-clause-terms
+returns-clause-terms c = grind (arith, common_steps)
+
+pub returns-in-Ok-retire-clause-fault : goal.returns-in-Ok-retire-clause-fault
+returns-in-Ok-retire-clause-fault c = grind (arith, common_steps)
+
+pub returns-in-Err-clause-finished : goal.returns-in-Err-clause-finished
+returns-in-Err-clause-finished c = grind (arith, common_steps)
+
+pub run_on-requires-clause-terms : goal.run_on-requires-clause-terms
+run_on-requires-clause-terms c = grind (arith, common_steps)
+
+pub returns-clause-finished : goal.returns-clause-finished
+returns-clause-finished c = grind (arith, common_steps)
+
+pub returns-in-Err-clause-terms : goal.returns-in-Err-clause-terms
+returns-in-Err-clause-terms c = grind (arith, common_steps)
+
+pub run_on-requires-clause-own : goal.run_on-requires-clause-own
+run_on-requires-clause-own c = grind (arith, common_steps)

@@ -1,5 +1,6 @@
+use Rattle.std.proofs.lemmas.Grind.{common_steps}
 use Rattle.faults.specs.declared.run_fault.RunFault.TheVariants.{OutOfMemory}
-use Rattle.std.proofs.Common.{refl, rules, ◌∙◌}
+use Rattle.std.proofs.Common.{refl, rules, ◌∙◌, arith}
 use Rattle.journal.specs.Leading.{leads_itself}
 use Rattle.crew.proofs.Passes.{memory_not_stopped, memory_not_workers, not_for_workers}
 use Rattle.crew.proofs.threads.run_on.Goals as goal
@@ -58,3 +59,42 @@ in_threads-requires-clause-plan g c κs within = c.in-Ok.ensures ∙ c.plan.ensu
 
 pub in_threads-requires-clause-workers : goal.in_threads-requires-clause-workers
 in_threads-requires-clause-workers g c κs within = c.if-not-may_have.ensures.0 refl
+
+pub returns-then-not-may_have-clause-stopped : goal.returns-then-not-may_have-clause-stopped
+returns-then-not-may_have-clause-stopped c = grind (arith, common_steps)
+
+pub returns-in-Ok-in_threads-clause-refused : goal.returns-in-Ok-in_threads-clause-refused
+returns-in-Ok-in_threads-clause-refused c = grind (arith, common_steps)
+
+pub returns-in-Ok-in_threads-clause-stopped : goal.returns-in-Ok-in_threads-clause-stopped
+returns-in-Ok-in_threads-clause-stopped c = grind (arith, common_steps)
+
+pub returns-in-Ok-in_threads-clause-seen_back : goal.returns-in-Ok-in_threads-clause-seen_back
+returns-in-Ok-in_threads-clause-seen_back c = grind (arith, common_steps)
+
+pub returns-clause-workers : goal.returns-clause-workers
+returns-clause-workers c = grind (arith, common_steps)
+
+pub returns-then-not-may_have-clause-back : goal.returns-then-not-may_have-clause-back
+returns-then-not-may_have-clause-back c = grind (arith, common_steps)
+
+pub returns-clause-finished : goal.returns-clause-finished
+returns-clause-finished c = grind (arith, common_steps)
+
+pub returns-in-Ok-in_threads-clause-back : goal.returns-in-Ok-in_threads-clause-back
+returns-in-Ok-in_threads-clause-back c = grind (arith, common_steps)
+
+pub returns-then-not-may_have-clause-refused : goal.returns-then-not-may_have-clause-refused
+returns-then-not-may_have-clause-refused c = grind (arith, common_steps)
+
+pub returns-in-Ok-in_threads-clause-ended : goal.returns-in-Ok-in_threads-clause-ended
+returns-in-Ok-in_threads-clause-ended c = grind (arith, common_steps)
+
+pub stop-requires-clause-terms : goal.stop-requires-clause-terms
+stop-requires-clause-terms c = grind (arith, common_steps)
+
+pub returns-clause-seen : goal.returns-clause-seen
+returns-clause-seen c = grind (arith, common_steps)
+
+pub returns-clause-own : goal.returns-clause-own
+returns-clause-own c = grind (arith, common_steps)

@@ -1,4 +1,5 @@
-use Rattle.std.proofs.Common.{◌∙◌}
+use Rattle.std.proofs.Common.{◌∙◌, arith}
+use Rattle.std.proofs.lemmas.Grind.{common_steps}
 use Rattle.crew.proofs.Passes.{further, leaves_for_memory}
 use Rattle.crew.proofs.threads.run_thread.Goals as goal
 
@@ -23,3 +24,18 @@ returns-in_default-clause-leaves g c = c.in-Err.ensures.leaves
 
 pub returns-in_default-clause-ended : goal.returns-in_default-clause-ended
 returns-in_default-clause-ended g c = c.in-Err.ensures.leaves.ended c.in_default.not-OutOfMemory
+
+pub returns-in-Ok-clause-goes_on : goal.returns-in-Ok-clause-goes_on
+returns-in-Ok-clause-goes_on c = grind (arith, common_steps)
+
+pub returns-in_default-clause-finished : goal.returns-in_default-clause-finished
+returns-in_default-clause-finished c = grind (arith, common_steps)
+
+pub do_part-requires-clause-plan : goal.do_part-requires-clause-plan
+do_part-requires-clause-plan c = grind (arith, common_steps)
+
+pub returns-in-Ok-clause-finished : goal.returns-in-Ok-clause-finished
+returns-in-Ok-clause-finished c = grind (arith, common_steps)
+
+pub returns-in_default-clause-goes_on : goal.returns-in_default-clause-goes_on
+returns-in_default-clause-goes_on c = grind (arith, common_steps)

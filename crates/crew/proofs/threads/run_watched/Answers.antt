@@ -1,4 +1,5 @@
-use Rattle.std.proofs.Common.{◌≡◌, ◌≢◌, List, refl, subst, sym}
+use Rattle.std.proofs.Common.{◌≡◌, ◌≢◌, List, refl, subst, sym, arith}
+use Rattle.std.proofs.lemmas.Grind.{common_steps}
 use Rattle.claim_gate.specs.Parts.{GateParts}
 use Rattle.claim_gate.specs.Shared.{IsOrdered}
 use Rattle.claim_gate.specs.Terms.{ForTerms, TermsParts}
@@ -61,3 +62,39 @@ returns-clause-finished g c = c.in-Ok-from_state.ensures.finished
 
 pub returns-clause-terms : goal.returns-clause-terms
 returns-clause-terms g c = c.in-Ok-from_state.ensures.batch.0
+
+pub returns-then-not-may_have-clause-refused : goal.returns-then-not-may_have-clause-refused
+returns-then-not-may_have-clause-refused c = grind (arith, common_steps)
+
+pub returns-in_default-new-2-clause-ordered : goal.returns-in_default-new-2-clause-ordered
+returns-in_default-new-2-clause-ordered c = grind (arith, common_steps)
+
+pub returns-in_default-new-2-clause-terms : goal.returns-in_default-new-2-clause-terms
+returns-in_default-new-2-clause-terms c = grind (arith, common_steps)
+
+pub returns-in_default-new-2-clause-finished : goal.returns-in_default-new-2-clause-finished
+returns-in_default-new-2-clause-finished c = grind (arith, common_steps)
+
+pub returns-in-Err-clause-ordered : goal.returns-in-Err-clause-ordered
+returns-in-Err-clause-ordered c = grind (arith, common_steps)
+
+pub returns-in_default-new-2-clause-workers : goal.returns-in_default-new-2-clause-workers
+returns-in_default-new-2-clause-workers c = grind (arith, common_steps)
+
+pub returns-in-Err-clause-terms : goal.returns-in-Err-clause-terms
+returns-in-Err-clause-terms c = grind (arith, common_steps)
+
+pub run_after_new-requires-clause-terms : goal.run_after_new-requires-clause-terms
+run_after_new-requires-clause-terms c = grind (arith, common_steps)
+
+pub returns-in-Err-clause-workers : goal.returns-in-Err-clause-workers
+returns-in-Err-clause-workers c = grind (arith, common_steps)
+
+pub unreachable-unreachable : goal.unreachable-unreachable
+unreachable-unreachable c = grind (arith, common_steps)
+
+pub returns-clause-refused : goal.returns-clause-refused
+returns-clause-refused c = grind (arith, common_steps)
+
+pub returns-in-Err-clause-finished : goal.returns-in-Err-clause-finished
+returns-in-Err-clause-finished c = grind (arith, common_steps)

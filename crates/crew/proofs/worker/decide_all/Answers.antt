@@ -44,3 +44,6 @@ settle-requires-clause-fields c =
 
 pub settle-requires-clause-roles : goal.settle-requires-clause-roles
 settle-requires-clause-roles c = rw c.loop-job.invariant.0 c.requires.roles
+
+pub returns-clause-plan : goal.returns-clause-plan
+returns-clause-plan c = grind (arith, common_steps)

@@ -1,4 +1,5 @@
 use Rattle.std.proofs.Common.{inl, inr, ◌≡◌, ◌∙◌, ◌++◌, ◌∷◌, [], length, ap, refl, rules, arith, length-append}
+use Rattle.std.proofs.lemmas.Grind.{common_steps}
 use Rattle.std.proofs.lemmas.List.Elements.{All-push, All-same}
 use Rattle.crew.specs.Sharing.{IsInWork}
 use Rattle.crew.proofs.HeldClaims.{all_in_work_stay}
@@ -63,3 +64,27 @@ calls-init g c = (
   All-same (IsInWork (g.G.Gate.known c.args.pass).seen) c.args.jobs.items [] c.requires.none (λ k d within. absurd (omega (arith, within))),
   ap length c.requires.none,
 )
+
+pub returns-in-Err-clause-goes_on : goal.returns-in-Err-clause-goes_on
+returns-in-Err-clause-goes_on c = grind (arith, common_steps)
+
+pub returns-in_default-clause-gathered : goal.returns-in_default-clause-gathered
+returns-in_default-clause-gathered c = grind (arith, common_steps)
+
+pub returns-in-Over-clause-leaves : goal.returns-in-Over-clause-leaves
+returns-in-Over-clause-leaves c = grind (arith, common_steps)
+
+pub returns-in_default-clause-goes_on : goal.returns-in_default-clause-goes_on
+returns-in_default-clause-goes_on c = grind (arith, common_steps)
+
+pub take-requires-clause-own : goal.take-requires-clause-own
+take-requires-clause-own c = grind (arith, common_steps)
+
+pub returns-in-Err-clause-gathered : goal.returns-in-Err-clause-gathered
+returns-in-Err-clause-gathered c = grind (arith, common_steps)
+
+pub returns-in-NothingReady-clause-leaves : goal.returns-in-NothingReady-clause-leaves
+returns-in-NothingReady-clause-leaves c = grind (arith, common_steps)
+
+pub take-requires-clause-terms : goal.take-requires-clause-terms
+take-requires-clause-terms c = grind (arith, common_steps)

@@ -1,4 +1,5 @@
-use Rattle.std.proofs.Common.{refl, ◌∙◌}
+use Rattle.std.proofs.Common.{refl, ◌∙◌, arith}
+use Rattle.std.proofs.lemmas.Grind.{common_steps}
 use Rattle.claim_gate.specs.declared.job.DecidedJob.{DecidedJob}
 use Rattle.crew.proofs.HeldClaims.{settled_stays}
 use Rattle.crew.proofs.Passes.{after_section, leaves_for_memory, leaves_stopped, section_later, unchanged, worn_later}
@@ -72,3 +73,30 @@ finish-requires-clause-settled g c = c.tries.invariant.4.value
 
 pub returns-clause-leaves : goal.returns-clause-leaves
 returns-clause-leaves g c = leaves_for_memory (g.G.Gate.has_pass c.args.shared.now.gate.now) g.G.Gate.known g.G.Gate.is_worn c.args.pass c.tries.pass c.tries.invariant.0
+
+pub returns-in-Stopped-clause-goes_on : goal.returns-in-Stopped-clause-goes_on
+returns-in-Stopped-clause-goes_on c = grind (arith, common_steps)
+
+pub returns-in-Err-clause-decided : goal.returns-in-Err-clause-decided
+returns-in-Err-clause-decided c = grind (arith, common_steps)
+
+pub returns-clause-decided : goal.returns-clause-decided
+returns-clause-decided c = grind (arith, common_steps)
+
+pub returns-in-Err-clause-goes_on : goal.returns-in-Err-clause-goes_on
+returns-in-Err-clause-goes_on c = grind (arith, common_steps)
+
+pub finish-requires-clause-own : goal.finish-requires-clause-own
+finish-requires-clause-own c = grind (arith, common_steps)
+
+pub returns-clause-goes_on : goal.returns-clause-goes_on
+returns-clause-goes_on c = grind (arith, common_steps)
+
+pub returns-in-Ok-reply-clause-leaves : goal.returns-in-Ok-reply-clause-leaves
+returns-in-Ok-reply-clause-leaves c = grind (arith, common_steps)
+
+pub returns-in-AlreadyDecided-clause-leaves : goal.returns-in-AlreadyDecided-clause-leaves
+returns-in-AlreadyDecided-clause-leaves c = grind (arith, common_steps)
+
+pub returns-in-Stopped-clause-decided : goal.returns-in-Stopped-clause-decided
+returns-in-Stopped-clause-decided c = grind (arith, common_steps)

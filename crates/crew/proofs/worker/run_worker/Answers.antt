@@ -1,4 +1,5 @@
 use Rattle.std.proofs.Common.{◌≡◌, [], map, ap, refl, subst, ◌∙◌, sym, arith}
+use Rattle.std.proofs.lemmas.Grind.{common_steps}
 use Rattle.std.proofs.lemmas.Bool.{false≢true}
 use Rattle.std.proofs.lemmas.List.Elements.{All-same}
 use Rattle.claim_gate.specs.Terms.{IsTermsOf}
@@ -83,3 +84,24 @@ decide_all-requires-clause-roles g c = rw c.loop.invariant.4 c.plan-plan.ensures
 
 pub unreachable-requires : goal.unreachable-requires
 unreachable-requires g c = false≢true c.in-None.ensures.steps
+
+pub returns-in-Over-clause-leaves : goal.returns-in-Over-clause-leaves
+returns-in-Over-clause-leaves c = grind (arith, common_steps)
+
+pub unreachable-unreachable : goal.unreachable-unreachable
+unreachable-unreachable c = grind (arith, common_steps)
+
+pub returns-in_default-decide_all-clause-goes_on : goal.returns-in_default-decide_all-clause-goes_on
+returns-in_default-decide_all-clause-goes_on c = grind (arith, common_steps)
+
+pub loop-init-derived : goal.loop-init-derived
+loop-init-derived c = grind (arith, common_steps)
+
+pub returns-in_default-decide_all-clause-finished : goal.returns-in_default-decide_all-clause-finished
+returns-in_default-decide_all-clause-finished c = grind (arith, common_steps)
+
+pub returns-in-Err-clause-finished : goal.returns-in-Err-clause-finished
+returns-in-Err-clause-finished c = grind (arith, common_steps)
+
+pub returns-in-Err-clause-goes_on : goal.returns-in-Err-clause-goes_on
+returns-in-Err-clause-goes_on c = grind (arith, common_steps)

@@ -1,4 +1,5 @@
-use Rattle.std.proofs.Common.{refl, ◌∙◌}
+use Rattle.std.proofs.Common.{refl, ◌∙◌, arith}
+use Rattle.std.proofs.lemmas.Grind.{common_steps}
 use Rattle.crew.proofs.Passes.{after_section, leaves_for_memory, leaves_stopped, section_later, unchanged, worn_later}
 use Rattle.crew.proofs.Sections.{over_seen, stopped_seen, work_seen}
 use Rattle.crew.proofs.worker.take.Goals as goal
@@ -59,3 +60,24 @@ tries-init g c = (
 
 pub returns-clause-leaves : goal.returns-clause-leaves
 returns-clause-leaves g c = leaves_for_memory (g.G.Gate.has_pass c.args.shared.now.gate.now) g.G.Gate.known g.G.Gate.is_worn c.args.pass c.tries.pass c.tries.invariant.0
+
+pub returns-in-Err-clause-goes_on : goal.returns-in-Err-clause-goes_on
+returns-in-Err-clause-goes_on c = grind (arith, common_steps)
+
+pub returns-in-Ok-NothingReady-clause-leaves : goal.returns-in-Ok-NothingReady-clause-leaves
+returns-in-Ok-NothingReady-clause-leaves c = grind (arith, common_steps)
+
+pub returns-in-Ok-Work-clause-leaves : goal.returns-in-Ok-Work-clause-leaves
+returns-in-Ok-Work-clause-leaves c = grind (arith, common_steps)
+
+pub returns-in-Ok-Stopped-clause-task : goal.returns-in-Ok-Stopped-clause-task
+returns-in-Ok-Stopped-clause-task c = grind (arith, common_steps)
+
+pub returns-in-Err-clause-task : goal.returns-in-Err-clause-task
+returns-in-Err-clause-task c = grind (arith, common_steps)
+
+pub returns-in-Ok-Over-clause-leaves : goal.returns-in-Ok-Over-clause-leaves
+returns-in-Ok-Over-clause-leaves c = grind (arith, common_steps)
+
+pub returns-in-Ok-Stopped-clause-goes_on : goal.returns-in-Ok-Stopped-clause-goes_on
+returns-in-Ok-Stopped-clause-goes_on c = grind (arith, common_steps)

@@ -1,4 +1,5 @@
-use Rattle.std.proofs.Common.{refl, ◌∙◌}
+use Rattle.std.proofs.Common.{refl, ◌∙◌, arith}
+use Rattle.std.proofs.lemmas.Grind.{common_steps}
 use Rattle.crew.proofs.HeldClaims.{all_recorded_beside}
 use Rattle.crew.proofs.Passes.{further_beside, leads_beside, leaves_for_memory, leaves_later_where_err, unchanged}
 use Rattle.crew.proofs.worker.take_turn.Goals as goal
@@ -44,3 +45,12 @@ pub returns-clause-recorded : goal.returns-clause-recorded
 returns-clause-recorded g c =
     let leads = leads_beside (g.G.Gate.has_pass c.args.shared.now.gate.now) g.G.Gate.known c.in-Ok-record_all.pass c.gather-gathered.result c.gather-gathered.ensures.goes_on in
     all_recorded_beside g.G.Gate.known (g.G.Gate.known c.in-Ok-record_all.pass).seen c.args.settled.items c.gather-gathered.result c.in-Ok-record_all.ensures.recorded leads
+
+pub returns-in-Err-clause-gathered : goal.returns-in-Err-clause-gathered
+returns-in-Err-clause-gathered c = grind (arith, common_steps)
+
+pub returns-in-Err-clause-goes_on : goal.returns-in-Err-clause-goes_on
+returns-in-Err-clause-goes_on c = grind (arith, common_steps)
+
+pub returns-in-Err-clause-recorded : goal.returns-in-Err-clause-recorded
+returns-in-Err-clause-recorded c = grind (arith, common_steps)

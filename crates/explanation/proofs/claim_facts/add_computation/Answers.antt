@@ -1,3 +1,5 @@
+use Rattle.std.proofs.Common.{arith}
+use Rattle.std.proofs.lemmas.Grind.{common_steps}
 use Rattle.std.proofs.lemmas.Result.{on_ok_weaker}
 use Rattle.explanation.proofs.Appending.{computed, stopped}
 use Rattle.explanation.proofs.claim_facts.add_computation.Goals as goal
@@ -16,3 +18,6 @@ returns-in-None c =
     let found = rw (c.in-None.is, c.tables.ensures.tables) at c.in_ok-answers.ensures.answers in
     let listed = rw c.tables.ensures.tables at c.in_ok-answers.ensures.facts in
     stopped c.args.facts.now c.add_tables.new.facts c.args.plan.now c.args.given.now c.args.acc.now c.args.decided.now found listed
+
+pub add_settlement-requires : goal.add_settlement-requires
+add_settlement-requires c = grind (arith, common_steps)

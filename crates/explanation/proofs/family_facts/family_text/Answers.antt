@@ -1,4 +1,5 @@
-use Rattle.std.proofs.Common.{◌≡◌, true, false, refl, rules, subst, ◌∙◌}
+use Rattle.std.proofs.Common.{◌≡◌, true, false, refl, rules, subst, ◌∙◌, arith}
+use Rattle.std.proofs.lemmas.Grind.{common_steps}
 use Rattle.claim_gate.specs.Replies.{IsFiled}
 use Rattle.claim_gate.specs.Terms.{ForTerms, TermsParts}
 use Rattle.explanation.specs.Walking.{filed_in}
@@ -85,3 +86,21 @@ claims-preserved c =
 
 pub append_reached-requires-clause-plan : goal.append_reached-requires-clause-plan
 append_reached-requires-clause-plan c = c.in_ok-step.ensures.plan ∙ c.claims.invariant.2
+
+pub step-requires-clause-terms : goal.step-requires-clause-terms
+step-requires-clause-terms c = grind (arith, common_steps)
+
+pub step-requires-clause-fit : goal.step-requires-clause-fit
+step-requires-clause-fit c = grind (arith, common_steps)
+
+pub step-requires-clause-readers : goal.step-requires-clause-readers
+step-requires-clause-readers c = grind (arith, common_steps)
+
+pub claims-smaller : goal.claims-smaller
+claims-smaller c = grind (arith, common_steps)
+
+pub step-requires-clause-plan : goal.step-requires-clause-plan
+step-requires-clause-plan c = grind (arith, common_steps)
+
+pub claims-smaller-in-Other : goal.claims-smaller-in-Other
+claims-smaller-in-Other c = grind (arith, common_steps)

@@ -1,4 +1,5 @@
 use Rattle.std.proofs.Common.{◌≡◌, ◌-◌, ◌+◌, drop, inr, subst, sym, arith, ◌∙◌}
+use Rattle.std.proofs.lemmas.Grind.{common_steps}
 use Rattle.csv.specs.Reading.{strip_bom}
 use Rattle.csv.specs.Records.{fields_of}
 use Rattle.intake_csv.specs.Reader.{HasLeft}
@@ -54,3 +55,9 @@ records-preserved c =
     let more = c.if-earlier-eq0.false in
     let one : passed + 1 ≡ c.args.number - (c.records.earlier - 1) = omega (arith, within, more) in
     (omega (arith, within), subst (λ n. HasLeft c.read_byte_record.new.self (drop n all)) one gives.left)
+
+pub overflow_sub-earlier : goal.overflow_sub-earlier
+overflow_sub-earlier c = grind (arith, common_steps)
+
+pub records-smaller : goal.records-smaller
+records-smaller c = grind (arith, common_steps)

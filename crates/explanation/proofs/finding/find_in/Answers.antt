@@ -1,4 +1,5 @@
-use Rattle.std.proofs.Common.{◌-◌, [], get_or}
+use Rattle.std.proofs.Common.{◌-◌, [], get_or, arith}
+use Rattle.std.proofs.lemmas.Grind.{common_steps}
 use Rattle.explanation.proofs.FoundClaims.{none_given, searched_all, searched_first, searched_more}
 use Rattle.explanation.proofs.finding.find_in.Goals as goal
 
@@ -21,3 +22,6 @@ records-preserved c =
     let given = rw c.in-Some.is at c.in_ok-summary.ensures.gives in
     searched_more terms.plan.names (get_or terms.files (c.args.provider - 1) []) c.args.id.now c.args.provider c.args.earlier c.given_row_is_the_first.ensures c.records.rows c.next_summary.new.self
     c.records.found c.in_ok-more.more _ _ c.records.invariant given c.in_ok-more.ensures
+
+pub records-smaller : goal.records-smaller
+records-smaller c = grind (arith, common_steps)

@@ -1,4 +1,5 @@
 use Rattle.std.proofs.Common.{◌<◌, ◌≤◌, length, get_or, ap, refl, subst, sym, ◌∙◌, arith}
+use Rattle.std.proofs.lemmas.Grind.{common_steps}
 use Rattle.settlement.specs.Bindings.{values_given}
 use Rattle.settlement.proofs.AllBound.{kinds_given}
 use Rattle.explanation.proofs.Binding.{all_filled, filled_none, more_filled, takes_next}
@@ -43,3 +44,6 @@ returns c =
     let size = ap length listed in
     let past : length given ≤ c.loop-place.place = omega (arith, size, c.loop-place-test.false) in
     all_filled plan.names given given c.loop-place.place c.loop-place.inputs c.loop-place.invariant kinds past refl
+
+pub bounds-value-items-place : goal.bounds-value-items-place
+bounds-value-items-place c = grind (arith, common_steps)

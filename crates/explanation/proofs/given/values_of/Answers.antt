@@ -7,3 +7,9 @@ loop-value-preserved c = grind (arith, common_steps)
 
 pub returns : goal.returns
 returns c = grind (arith, common_steps)
+
+pub bounds-value-items-value-index : goal.bounds-value-items-value-index
+bounds-value-items-value-index c = grind (arith, common_steps)
+
+pub offset_bounds-value-items-value-index : goal.offset_bounds-value-items-value-index
+offset_bounds-value-items-value-index c = grind (arith, common_steps)

@@ -1,4 +1,5 @@
-use Rattle.std.proofs.Common.{◌-◌, [], get_or}
+use Rattle.std.proofs.Common.{◌-◌, [], get_or, arith}
+use Rattle.std.proofs.lemmas.Grind.{common_steps}
 use Rattle.explanation.proofs.RecordNumbers.{number_found, reader_more, row_given}
 use Rattle.explanation.proofs.numbers.number_in.Goals as goal
 
@@ -27,3 +28,9 @@ records-preserved c =
     let terms = c.args.terms.now in
     let given = rw c.in-Some.is at c.in_ok-summary.ensures.gives in
     reader_more c.given_row_is_the_first.ensures terms.plan.names (get_or terms.files (c.args.provider - 1) []) c.records.rows c.next_summary.new.self c.records.invariant _ _ given
+
+pub records-smaller-else-found-place : goal.records-smaller-else-found-place
+records-smaller-else-found-place c = grind (arith, common_steps)
+
+pub records-smaller : goal.records-smaller
+records-smaller c = grind (arith, common_steps)

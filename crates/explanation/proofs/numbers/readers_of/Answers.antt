@@ -16,3 +16,12 @@ files-preserved c =
 
 pub returns : goal.returns
 returns c = grind (arith, common_steps)
+
+pub overflow_add-place : goal.overflow_add-place
+overflow_add-place c = grind (arith, common_steps)
+
+pub files-init : goal.files-init
+files-init c = grind (arith, common_steps)
+
+pub rows-requires-clause-most : goal.rows-requires-clause-most
+rows-requires-clause-most c = grind (arith, common_steps)

@@ -1,4 +1,5 @@
 use Rattle.std.proofs.Common.{◌<◌, ◌-◌, [], ap, arith, get_or, length, ◌∙◌}
+use Rattle.std.proofs.lemmas.Grind.{common_steps}
 use Rattle.std.proofs.lemmas.List.{length-map}
 use Rattle.explanation.proofs.FileRecords.{text_at}
 use Rattle.explanation.proofs.refusal.text_of.Goals as goal
@@ -13,3 +14,6 @@ returns c =
     let most = c.requires.most in
     let within : place < length files = omega (arith, long, size, least, most) in
     text_at files place _ within ∙ ap (λ texts. get_or texts place []) c.files.ensures.files
+
+pub bounds-files-provider : goal.bounds-files-provider
+bounds-files-provider c = grind (arith, common_steps)

@@ -1,4 +1,5 @@
 use Rattle.std.proofs.Common.{refl, subst, sym, ◌∙◌, arith}
+use Rattle.std.proofs.lemmas.Grind.{common_steps}
 use Rattle.settlement.specs.Accounts.{family_of}
 use Rattle.claim_gate.specs.Replies.{IsFiled}
 use Rattle.claim_gate.specs.Terms.{ForTerms, TermsParts}
@@ -77,3 +78,18 @@ claims-preserved c =
       not_given old.claims new.claims reached.offer next wanted i.2 other,
       c.in_ok-step.ensures.plan ∙ i.3,
     )
+
+pub step-requires-clause-fit : goal.step-requires-clause-fit
+step-requires-clause-fit c = grind (arith, common_steps)
+
+pub claims-smaller-in-Other : goal.claims-smaller-in-Other
+claims-smaller-in-Other c = grind (arith, common_steps)
+
+pub unreachable-unreachable : goal.unreachable-unreachable
+unreachable-unreachable c = grind (arith, common_steps)
+
+pub returns-then-is_at-clause-plan : goal.returns-then-is_at-clause-plan
+returns-then-is_at-clause-plan c = grind (arith, common_steps)
+
+pub claims-smaller : goal.claims-smaller
+claims-smaller c = grind (arith, common_steps)

@@ -1,4 +1,5 @@
 use Rattle.std.proofs.Common.{◌≡◌, ◌+◌, ◌-◌, ◌++◌, suc, ap, append_assoc, append-nil, arith, chars, encode_utf8, encode_utf8_all, string_bytes, sym, take, ◌∙◌}
+use Rattle.std.proofs.lemmas.Grind.{common_steps}
 use Rattle.std.proofs.lemmas.Str.{IsUtf8-past_char}
 use Rattle.std.specs.Str.Iter.{chars_rest}
 use Rattle.explanation.proofs.ShownFields.{first_of_none, first_step}
@@ -27,3 +28,9 @@ returns-in_default c =
     let held = c.loop.invariant in
     let none = first_of_none (c.args.most - c.loop.counter) (chars_rest c.loop.characters) c.in_default.ensures.steps.0.0 in
     sym (append-nil (string_bytes c.loop.first)) ∙ ap (λ next. string_bytes c.loop.first ++ next) (sym none) ∙ held.1
+
+pub loop-init : goal.loop-init
+loop-init c = grind (arith, common_steps)
+
+pub loop-init-derived : goal.loop-init-derived
+loop-init-derived c = grind (arith, common_steps)

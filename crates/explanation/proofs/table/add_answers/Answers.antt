@@ -10,3 +10,6 @@ returns-in_default c =
 
 pub loop-place-preserved : goal.loop-place-preserved
 loop-place-preserved c = grind (arith, common_steps)
+
+pub returns : goal.returns
+returns c = grind (arith, common_steps)

@@ -14,3 +14,9 @@ returns-in-None-clause-facts c = grind (arith, common_steps)
 
 pub returns-in-None-clause-answers : goal.returns-in-None-clause-answers
 returns-in-None-clause-answers c = grind (arith, common_steps)
+
+pub returns-clause-facts : goal.returns-clause-facts
+returns-clause-facts c = grind (arith, common_steps)
+
+pub returns-clause-answers : goal.returns-clause-answers
+returns-clause-answers c = grind (arith, common_steps)

@@ -4,3 +4,6 @@ use Rattle.explanation.proofs.table.add_values_read.Goals as goal
 
 pub loop-input-preserved : goal.loop-input-preserved
 loop-input-preserved c = grind (arith, common_steps)
+
+pub returns : goal.returns
+returns c = grind (arith, common_steps)

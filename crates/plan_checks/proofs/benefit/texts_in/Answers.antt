@@ -1,4 +1,5 @@
-use Rattle.std.proofs.Common.{List, ℕ, [], ◌∷◌, ◌++◌, ap, sym, ◌∙◌}
+use Rattle.std.proofs.Common.{List, ℕ, [], ◌∷◌, ◌++◌, ap, sym, ◌∙◌, arith}
+use Rattle.std.proofs.lemmas.Grind.{common_steps}
 use Rattle.settlement.specs.Roles.{text_of}
 use Rattle.settlement.proofs.Texts.{text_more, other_more}
 use Rattle.plan_checks.proofs.benefit.texts_in.Goals.{in-Some+in_ok-new+in_ok-push, in_default}
@@ -17,3 +18,9 @@ loop-value-preserved c =
       | in_default w ↦
           w.texts-is ∙ c.loop-value.invariant ∙ sym (other_more values i c.value-item.result c.loop-value-test.true (present ∙ sym w.in_default.ensures))
     ]
+
+pub returns : goal.returns
+returns c = grind (arith, common_steps)
+
+pub new-requires : goal.new-requires
+new-requires c = grind (arith, common_steps)

@@ -1,4 +1,5 @@
-use Rattle.std.proofs.Common.{◌++◌, ◌∷◌, [], ap, sym, ◌∙◌}
+use Rattle.std.proofs.Common.{◌++◌, ◌∷◌, [], ap, sym, ◌∙◌, arith}
+use Rattle.std.proofs.lemmas.Grind.{common_steps}
 use Rattle.plan_checks.proofs.JointLists.{chosen_more, skipped_more}
 use Rattle.plan_checks.proofs.change_survey.items_at.Goals as goal
 use Rattle.plan_checks.proofs.change_survey.items_at.Goals.{in-Some+in_ok-push, in_default}
@@ -14,3 +15,6 @@ loop-place-preserved c =
           ∙ sym (chosen_more items places i _ w.in-Some.item c.loop-place-test.true w.in-Some.ensures)
       | in_default w ↦ w.found-is ∙ c.loop-place.invariant ∙ sym (skipped_more items places i _ c.loop-place-test.true w.in_default.ensures)
     ]
+
+pub returns : goal.returns
+returns c = grind (arith, common_steps)

@@ -1,4 +1,5 @@
-use Rattle.std.proofs.Common.{◌∙◌, ap}
+use Rattle.std.proofs.Common.{◌∙◌, ap, arith}
+use Rattle.std.proofs.lemmas.Grind.{common_steps}
 use Rattle.plan_checks.specs.Changes.{plans_of}
 use Rattle.plan_checks.specs.Joint.{joint_regions}
 use Rattle.plan_checks.proofs.Changing.{have_changes, boxes_of_plans, differ_exactly, hold_joint_values}
@@ -35,3 +36,15 @@ returns-clause-held c =
 pub returns-in_err-joint-clause-refused : goal.returns-in_err-joint-clause-refused
 returns-in_err-joint-clause-refused c =
     refused_on c.args.old.now c.args.new.now c.args.comparing.now c.args.limit c.from_residual.result _ c.from_residual.ensures.1 (c.in_err-joint.ensures.refused c.args.limit)
+
+pub same-regions : goal.same-regions
+same-regions c = grind (arith, common_steps)
+
+pub returns-clause-regions : goal.returns-clause-regions
+returns-clause-regions c = grind (arith, common_steps)
+
+pub returns-clause-narrow : goal.returns-clause-narrow
+returns-clause-narrow c = grind (arith, common_steps)
+
+pub returns-then-zones-limit-clause-refused : goal.returns-then-zones-limit-clause-refused
+returns-then-zones-limit-clause-refused c = grind (arith, common_steps)

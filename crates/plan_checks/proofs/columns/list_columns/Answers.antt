@@ -1,4 +1,5 @@
-use Rattle.std.proofs.Common.{◌<◌, ◌∙◌, length, sym, subst, rules}
+use Rattle.std.proofs.Common.{◌<◌, ◌∙◌, length, sym, subst, rules, arith}
+use Rattle.std.proofs.lemmas.Grind.{common_steps}
 use Rattle.csv.specs.Records.{fields_of}
 use Rattle.plan_checks.specs.Columns.{AreApart}
 use Rattle.plan_checks.proofs.HeaderColumns.{apart_pushed, columns_pushed, repeated_column, unknown_column}
@@ -24,3 +25,12 @@ loop-place-preserved c =
       columns_pushed _ _ c.loop-place.place _ _ _ pushed c.in-Some.ensures.column c.loop-place.invariant.0,
       subst AreApart (sym pushed) (apart_pushed _ _ c.loop-place.invariant.1 fresh),
     )
+
+pub returns-clause-columns : goal.returns-clause-columns
+returns-clause-columns c = grind (arith, common_steps)
+
+pub loop-place-init : goal.loop-place-init
+loop-place-init c = grind (arith, common_steps)
+
+pub overflow_add-result-then-is_repeated : goal.overflow_add-result-then-is_repeated
+overflow_add-result-then-is_repeated c = grind (arith, common_steps)

@@ -1,4 +1,5 @@
-use Rattle.std.proofs.Common.{◌≡◌, ◌↔◌, ◌==◌, Bor, List, ℕ, [], cond, map, false, IfOk, IsTrue, ap, sym, subst, ◌∙◌, lit<}
+use Rattle.std.proofs.Common.{◌≡◌, ◌↔◌, ◌==◌, Bor, List, ℕ, [], cond, map, false, IfOk, IsTrue, ap, sym, subst, ◌∙◌, lit<, arith}
+use Rattle.std.proofs.lemmas.Grind.{common_steps}
 use Rattle.std.specs.List.{AllByRecursion, slice_split}
 use Rattle.std.specs.Str.{bytes_eq}
 use Rattle.std.proofs.lemmas.Iterator.Consumers.{map_from_collect}
@@ -16,3 +17,6 @@ returns c =
     let listed : map (λ (t : Bor (List ℕ)). t.now) c.as_slice.result.now ≡ listed_texts text =
     read ∙ sym (ap (λ b. cond b [] (slice_split (λ byte. byte == semicolon) text)) other) in
     subst (λ texts. IfOk c.each_spells.result (λ all. IsTrue all ↔ AllByRecursion (SpellsSome c.args.kind) texts)) listed c.each_spells.ensures
+
+pub returns-then-eq : goal.returns-then-eq
+returns-then-eq c = grind (arith, common_steps)

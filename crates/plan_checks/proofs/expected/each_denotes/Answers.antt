@@ -1,4 +1,5 @@
 use Rattle.std.proofs.Common.{◌<◌, Bor, List, ℕ, [], map, length, refl, sym, ◌∙◌, arith}
+use Rattle.std.proofs.lemmas.Grind.{common_steps}
 use Rattle.std.proofs.lemmas.Bool.{false≢true}
 use Rattle.std.proofs.lemmas.List.{length-map, get_or-map}
 use Rattle.plan_checks.proofs.RowValues.{lengths_differ, one_differs, one_more_denotes}
@@ -28,3 +29,6 @@ loop-place-preserved c =
     let within_texts : c.loop-place.place < length (map (λ (t : Bor (List ℕ)). t.now) c.args.texts.now) = omega (arith, size, within) in
     one_more_denotes _ _ c.loop-place.place _ _ within_texts c.loop-place-test.true (get_or-map (λ (t : Bor (List ℕ)). t.now) c.args.texts.now c.loop-place.place _ [] within)
     (sym c.index-values-place.is) c.loop-place.invariant (says.0 refl)
+
+pub returns : goal.returns
+returns c = grind (arith, common_steps)

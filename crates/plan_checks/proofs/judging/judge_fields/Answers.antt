@@ -1,4 +1,5 @@
-use Rattle.std.proofs.Common.{inr}
+use Rattle.std.proofs.Common.{inr, arith}
+use Rattle.std.proofs.lemmas.Grind.{common_steps}
 use Rattle.std.proofs.lemmas.Result.{IfOk-weaker}
 use Rattle.plan_checks.proofs.Readings.{readable_within}
 use Rattle.plan_checks.proofs.Rows.{judged_unread}
@@ -16,3 +17,6 @@ returns-in-Some c =
 
 pub judge_readable-requires-clause-readable : goal.judge_readable-requires-clause-readable
 judge_readable-requires-clause-readable c = rw c.in_default.is at c.in_ok-place.ensures.readable
+
+pub judge_readable-requires-clause-apart : goal.judge_readable-requires-clause-apart
+judge_readable-requires-clause-apart c = grind (arith, common_steps)

@@ -1,5 +1,6 @@
+use Rattle.std.proofs.lemmas.Grind.{common_steps}
 use Rattle.std.proofs.lemmas.Bool.{false≢true}
-use Rattle.std.proofs.Common.{refl}
+use Rattle.std.proofs.Common.{refl, arith}
 use Rattle.std.proofs.lemmas.Result.{on_ok_weaker}
 use Rattle.plan_checks.proofs.Rows.{field_differs, field_met}
 use Rattle.plan_checks.proofs.lines.append_field.Goals as goal
@@ -14,3 +15,6 @@ returns c =
     let says = rw c.if-branch.false at c.in_ok-is_met.ensures in
     on_ok_weaker c.append_difference.result
     (λ last. field_differs _ _ c.args.column _ _ _ _ (λ met. false≢true (says.1 met)) c.in_ok-found.ensures (rw (c.text_or_absent.ensures, c.as_slice.ensures.value) at last)) c.append_difference.ensures
+
+pub append_difference-requires-text-name : goal.append_difference-requires-text-name
+append_difference-requires-text-name c = grind (arith, common_steps)

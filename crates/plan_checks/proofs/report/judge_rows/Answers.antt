@@ -18,3 +18,15 @@ loop-index-preserved c = (
   rows_more _ _ _ c.loop-index.index _ _ _ _ _ _ c.loop-index-test.true c.index-rows-index.is (rw c.as_slice.ensures.value at c.in_ok-extend_from_slice.ensures.items) c.loop-index.invariant.1 c.in_ok-judged.ensures,
   c.add.ensures c.loop-index.invariant.0 c.loop-index.invariant.2,
 )
+
+pub returns : goal.returns
+returns c = grind (arith, common_steps)
+
+pub judge_row-requires-clause-named : goal.judge_row-requires-clause-named
+judge_row-requires-clause-named c = grind (arith, common_steps)
+
+pub judge_row-requires-clause-needed : goal.judge_row-requires-clause-needed
+judge_row-requires-clause-needed c = grind (arith, common_steps)
+
+pub judge_row-requires-clause-apart : goal.judge_row-requires-clause-apart
+judge_row-requires-clause-apart c = grind (arith, common_steps)

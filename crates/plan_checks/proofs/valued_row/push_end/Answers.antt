@@ -1,4 +1,5 @@
-use Rattle.std.proofs.Common.{sym, ◌∙◌}
+use Rattle.std.proofs.Common.{sym, ◌∙◌, arith}
+use Rattle.std.proofs.lemmas.Grind.{common_steps}
 use Rattle.std.proofs.lemmas.Bool.{false≢true}
 use Rattle.std.proofs.lemmas.Result.{on_ok_weaker}
 use Rattle.csv.specs.Records.{fields_of}
@@ -18,3 +19,6 @@ returns c =
     on_ok_weaker c.push_faulty.result
     (ends_misfit c.args.plan.now c.args.columns.now (fields_of c.args.row.now) c.args.line.now _ (λ same. false≢true (sym c.if-has_width.false ∙ c.has_width.ensures.1 same)))
     c.push_faulty.ensures
+
+pub push_fields_end-requires-clause-apart : goal.push_fields_end-requires-clause-apart
+push_fields_end-requires-clause-apart c = grind (arith, common_steps)

@@ -1,3 +1,5 @@
+use Rattle.std.proofs.Common.{arith}
+use Rattle.std.proofs.lemmas.Grind.{elements}
 use Rattle.std.proofs.lemmas.Result.{on_ok_weaker}
 use Rattle.csv.specs.Records.{fields_of}
 use Rattle.plan_checks.proofs.Givens.{row_is_ready}
@@ -20,3 +22,6 @@ returns-in-Err c =
     let unread = rw (c.in-Err.is, c.plan.ensures) at c.in_ok-inputs.ensures.unread in
     let first = rw (c.in-Err.is, c.plan.ensures) at c.in_ok-inputs.ensures.first in
     on_ok_weaker c.push_unread.result (ends_unread c.args.plan.now c.args.columns.now (fields_of c.args.row.now) c.args.line.now _ _ unread first) c.push_unread.ensures
+
+pub push_unread-requires-clause-within : goal.push_unread-requires-clause-within
+push_unread-requires-clause-within c = grind (arith, elements)

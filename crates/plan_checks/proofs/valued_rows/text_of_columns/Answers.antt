@@ -1,4 +1,5 @@
-use Rattle.std.proofs.Common.{Bor, List, ℕ, [], map, ap, ◌∙◌}
+use Rattle.std.proofs.Common.{Bor, List, ℕ, [], map, ap, ◌∙◌, arith}
+use Rattle.std.proofs.lemmas.Grind.{common_steps}
 use Rattle.std.proofs.lemmas.Result.{IfOk-weaker}
 use Rattle.plan_checks.proofs.RowTexts.{whole_text}
 use Rattle.plan_checks.proofs.valued_rows.text_of_columns.Goals as goal
@@ -10,3 +11,12 @@ returns c =
     IfOk-weaker c.into_text.result _ _
     (λ text is rows left. whole_text c.args.plan.now _ _ rows _ _ _ names (rw c.in_ok-compiled.ensures at (c.in_ok-write_rows.ensures rows _ left front)) is)
     c.into_text.ensures
+
+pub write_rows-requires-clause-apart : goal.write_rows-requires-clause-apart
+write_rows-requires-clause-apart c = grind (arith, common_steps)
+
+pub write_rows-requires-clause-sound : goal.write_rows-requires-clause-sound
+write_rows-requires-clause-sound c = grind (arith, common_steps)
+
+pub write_rows-requires-clause-placed : goal.write_rows-requires-clause-placed
+write_rows-requires-clause-placed c = grind (arith, common_steps)

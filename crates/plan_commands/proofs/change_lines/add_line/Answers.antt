@@ -33,3 +33,6 @@ returns c =
     let made : c.push-3.new.self.items ≡ c.loop-place.lines.items ++ line ∷ [] = search rules in
     let whole = made ∙ ap (λ xs. xs ++ line ∷ []) c.loop-place.invariant in
     line_added c.args.lines.now.items c.push-3.new.self.items c.args.part line c.args.set.now only (c.in_ok-zones.ensures ∙ c.as_slice-2.ensures) whole
+
+pub index_mut-requires : goal.index_mut-requires
+index_mut-requires c = grind (arith, common_steps)

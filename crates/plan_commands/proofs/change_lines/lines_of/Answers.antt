@@ -1,4 +1,5 @@
 use Rattle.std.proofs.Common.{◌≡◌, arith, subst}
+use Rattle.std.proofs.lemmas.Grind.{common_steps}
 use Rattle.plan_commands.specs.ChangeLines.{AreLinesOf}
 use Rattle.plan_commands.proofs.Parts.{lines_more}
 use Rattle.plan_commands.proofs.change_lines.lines_of.Goals as goal
@@ -12,3 +13,6 @@ returns c =
     let within = c.loop-part.auto.part-end in
     let end : c.loop-part.part ≡ c.args.count = omega (arith, last, within) in
     subst (λ n. AreLinesOf c.args.of_change.now c.args.boxes.now n c.loop-part.lines.items) end c.loop-part.invariant
+
+pub loop-part-init : goal.loop-part-init
+loop-part-init c = grind (arith, common_steps)

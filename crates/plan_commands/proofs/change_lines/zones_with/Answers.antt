@@ -1,4 +1,5 @@
-use Rattle.std.proofs.Common.{subst}
+use Rattle.std.proofs.Common.{subst, arith}
+use Rattle.std.proofs.lemmas.Grind.{common_steps}
 use Rattle.std.proofs.lemmas.List.{take_all}
 use Rattle.plan_commands.specs.ChangeLines.{HaveZonesWith}
 use Rattle.plan_commands.proofs.Parts.{zones_more}
@@ -12,3 +13,6 @@ loop-own-preserved c =
 pub returns : goal.returns
 returns c =
     subst (λ boxes. HaveZonesWith c.args.of_change.now boxes c.args.part c.loop-own.sets.items) (take_all c.loop-own.own-index c.args.boxes.now c.loop-own-test.false) c.loop-own.invariant
+
+pub loop-own-init : goal.loop-own-init
+loop-own-init c = grind (arith, common_steps)

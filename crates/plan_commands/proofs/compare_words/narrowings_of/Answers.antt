@@ -1,3 +1,5 @@
+use Rattle.std.proofs.Common.{arith}
+use Rattle.std.proofs.lemmas.Grind.{common_steps}
 use Rattle.std.proofs.lemmas.Result.{err_from_is_err_and}
 use Rattle.plan_commands.specs.Comparing.{IsNarrowing}
 use Rattle.plan_commands.proofs.OptionWords.{memory_stops, narrowing_stops, word_more}
@@ -17,3 +19,9 @@ pub loop-word-preserved : goal.loop-word-preserved
 loop-word-preserved c =
     word_more (IsNarrowing c.args.old.now c.args.new.now) c.args.words.now c.loop-word.word _ c.loop-word.narrowed.items c.add.new.items.items
     c.in_ok-narrowing.narrowing c.loop-word-test.true c.loop-word.invariant c.in_ok-narrowing.ensures.read c.in_ok-add.ensures
+
+pub loop-word-init : goal.loop-word-init
+loop-word-init c = grind (arith, common_steps)
+
+pub returns-clause-read : goal.returns-clause-read
+returns-clause-read c = grind (arith, common_steps)

@@ -1,4 +1,5 @@
-use Rattle.std.proofs.Common.{refl}
+use Rattle.std.proofs.Common.{refl, arith}
+use Rattle.std.proofs.lemmas.Grind.{common_steps}
 use Rattle.evaluation.specs.declared.stop.ValueStop.TheVariants.{NoMemory}
 use Rattle.plan_checks.specs.declared.rows_stop.RowsStop.TheVariants.{Value}
 use Rattle.plan_checks.specs.RowsStop.{status_of}
@@ -7,10 +8,10 @@ use Rattle.plan_commands.proofs.RowsStatuses.{all_written, not_all_written}
 use Rattle.plan_commands.proofs.rows.rows_into.Goals as goal
 
 pub returns-in-Err-clause-done : goal.returns-in-Err-clause-done
-returns-in-Err-clause-done g c = λ is_done. absurd (cc (is_done, c.report_unwritable.ensures))
+returns-in-Err-clause-done g c = grind (arith, common_steps)
 
 pub returns-in-Err-clause-refused : goal.returns-in-Err-clause-refused
-returns-in-Err-clause-refused g c = λ is_refused. absurd (cc (is_refused, c.report_unwritable.ensures))
+returns-in-Err-clause-refused g c = grind (arith, common_steps)
 
 pub returns-clause-done : goal.returns-clause-done
 returns-clause-done g c =

@@ -1,3 +1,5 @@
+use Rattle.std.proofs.Common.{arith}
+use Rattle.std.proofs.lemmas.Grind.{common_steps}
 use Rattle.value_command.proofs.Ends.{unjudged_not_done, unjudged_not_refused}
 use Rattle.plan_commands.proofs.RowsStatuses.{rows_done, rows_refused}
 use Rattle.plan_commands.proofs.rows.rows_named.Goals as goal
@@ -17,3 +19,9 @@ pub returns-in-Ok-rows_text_of-clause-refused : goal.returns-in-Ok-rows_text_of-
 returns-in-Ok-rows_text_of-clause-refused g c =
     rows_refused _ _ c.in-Ok.plan.items c.in-Ok-rows_text_of.rows.items c.rows_texts.result c.in-Ok.ensures.named
     c.in-Ok-rows_text_of.ensures.named (rw (c.as_slice.ensures.value, c.as_slice-in-Ok-rows_text_of.ensures.value) at c.rows_texts.ensures.refused)
+
+pub returns-clause-refused : goal.returns-clause-refused
+returns-clause-refused c = grind (arith, common_steps)
+
+pub returns-clause-done : goal.returns-clause-done
+returns-clause-done c = grind (arith, common_steps)

@@ -1,3 +1,5 @@
+use Rattle.std.proofs.Common.{arith}
+use Rattle.std.proofs.lemmas.Grind.{common_steps}
 use Rattle.value_command.proofs.Ends.{unjudged_not_done, unjudged_not_refused}
 use Rattle.plan_commands.proofs.PageStatuses.{refused_beside}
 use Rattle.plan_commands.proofs.show.show_beside.Goals as goal
@@ -10,3 +12,6 @@ returns-in-Err-clause-refused g c = λ is_refused. absurd (unjudged_not_refused 
 
 pub returns-in-Ok-clause-refused : goal.returns-in-Ok-clause-refused
 returns-in-Ok-clause-refused g c = refused_beside _ _ _ _ _ _ c.in-Ok.ensures.named c.as_slice.ensures.value c.show_texts.ensures.refused
+
+pub returns-in-Ok-clause-done : goal.returns-in-Ok-clause-done
+returns-in-Ok-clause-done c = grind (arith, common_steps)

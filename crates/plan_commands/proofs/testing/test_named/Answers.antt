@@ -1,3 +1,5 @@
+use Rattle.std.proofs.Common.{arith}
+use Rattle.std.proofs.lemmas.Grind.{common_steps}
 use Rattle.value_command.proofs.Ends.{unjudged_not_done, unjudged_not_refused}
 use Rattle.plan_commands.proofs.TestStatuses.{test_done, test_refused}
 use Rattle.plan_commands.proofs.testing.test_named.Goals as goal
@@ -17,3 +19,9 @@ pub returns-in-Ok-cases_of-clause-refused : goal.returns-in-Ok-cases_of-clause-r
 returns-in-Ok-cases_of-clause-refused g c =
     test_refused _ _ c.in-Ok.plan.items c.in-Ok-cases_of.cases.items c.test_texts.result c.in-Ok.ensures.named
     c.in-Ok-cases_of.ensures.named (rw (c.as_slice.ensures.value, c.as_slice-in-Ok-cases_of.ensures.value) at c.test_texts.ensures.refused)
+
+pub returns-clause-refused : goal.returns-clause-refused
+returns-clause-refused c = grind (arith, common_steps)
+
+pub returns-clause-done : goal.returns-clause-done
+returns-clause-done c = grind (arith, common_steps)

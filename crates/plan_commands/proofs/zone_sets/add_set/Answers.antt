@@ -20,3 +20,9 @@ returns-in-Some c =
 
 pub returns : goal.returns
 returns c = subst (λ xs. OnOk c.push_set-2.result (HaveAlso xs c.args.set.now c.push_set-2.new.sets.items)) c.loop-place.invariant c.push_set-2.ensures
+
+pub index-requires : goal.index-requires
+index-requires c = grind (arith, common_steps)
+
+pub index_mut-requires : goal.index_mut-requires
+index_mut-requires c = grind (arith, common_steps)

@@ -1,4 +1,5 @@
-use Rattle.std.proofs.Common.{subst}
+use Rattle.std.proofs.Common.{subst, arith}
+use Rattle.std.proofs.lemmas.Grind.{common_steps}
 use Rattle.std.proofs.lemmas.List.{take_all}
 use Rattle.plan_commands.specs.ZoneSets.{HaveSameZones}
 use Rattle.plan_commands.proofs.Unions.{sets_more}
@@ -10,3 +11,6 @@ loop-set-preserved c =
 
 pub returns : goal.returns
 returns c = subst (λ sets. HaveSameZones sets c.loop-set.joined.items) (take_all c.loop-set.set-index c.args.sets.now c.loop-set-test.false) c.loop-set.invariant
+
+pub loop-set-init : goal.loop-set-init
+loop-set-init c = grind (arith, common_steps)

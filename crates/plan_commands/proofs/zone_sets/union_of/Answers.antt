@@ -1,4 +1,5 @@
-use Rattle.std.proofs.Common.{◌≡◌, ◌+◌, get_or, refl, rules, subst, sym, take}
+use Rattle.std.proofs.Common.{◌≡◌, ◌+◌, get_or, refl, rules, subst, sym, take, arith}
+use Rattle.std.proofs.lemmas.Grind.{common_steps}
 use Rattle.std.specs.List.{insert}
 use Rattle.std.proofs.lemmas.List.{take_all}
 use Rattle.plan_commands.specs.ZoneSets.{IsUnion}
@@ -15,3 +16,9 @@ loop-region-preserved c =
 
 pub returns : goal.returns
 returns c = subst (λ items. IsUnion c.args.one.now items c.loop-region.both) (take_all c.loop-region.region-index c.args.other.now c.loop-region-test.false) c.loop-region.invariant
+
+pub insert-requires : goal.insert-requires
+insert-requires c = grind (arith, common_steps)
+
+pub loop-region-init : goal.loop-region-init
+loop-region-init c = grind (arith, common_steps)

@@ -1,4 +1,5 @@
 use Rattle.std.proofs.Common.{◌∙◌, [], arith, refl}
+use Rattle.std.proofs.lemmas.Grind.{common_steps}
 use Rattle.std.proofs.lemmas.Result.{err_from_is_err_and}
 use Rattle.remit.specs.RecordWriter.{at}
 use Rattle.remit.specs.Looked.{looked_up}
@@ -33,3 +34,6 @@ groups-preserved g c =
       so_far = on.on (at _ _ c.args.report.now.writer) so_far.so_far;
       decisions = c.in_ok-write_group.ensures.decisions ∙ so_far.decisions;
     }
+
+pub returns-clause-writes : goal.returns-clause-writes
+returns-clause-writes c = grind (arith, common_steps)

@@ -9,3 +9,6 @@ pub returns : goal.returns
 returns c =
     let all : take c.loop-amount.amount-index c.args.amounts.now ≡ c.args.amounts.now = grind (arith, common_steps) in
     subst (λ amounts. Pushes c.args.line.now c.loop-amount.line (map (λ amount. money_text (amount_of amount c.args.decision.now)) amounts)) all c.loop-amount.invariant
+
+pub loop-amount-preserved : goal.loop-amount-preserved
+loop-amount-preserved c = grind (arith, common_steps)

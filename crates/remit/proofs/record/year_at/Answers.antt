@@ -1,4 +1,5 @@
-use Rattle.std.proofs.Common.{◌≡◌, ℤ, Some, ap, subst, ◌∙◌, rules}
+use Rattle.std.proofs.Common.{◌≡◌, ℤ, Some, ap, subst, ◌∙◌, rules, arith}
+use Rattle.std.proofs.lemmas.Grind.{common_steps}
 use Rattle.feel_tests.specs.Calendar.{year_of, year_text}
 use Rattle.remit.proofs.record.year_at.Goals as goal
 
@@ -14,3 +15,6 @@ pub returns-in-None : goal.returns-in-None
 returns-in-None c = λ day located.
     let at = rw c.in-None.is at c.in_ok-day.ensures.lacking day located in
     absurd (cc at)
+
+pub day_year-requires : goal.day_year-requires
+day_year-requires c = grind (arith, common_steps)

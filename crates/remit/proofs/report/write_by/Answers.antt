@@ -115,3 +115,12 @@ returns-clause-ok_failed g c =
 
 pub write_files-requires-clause-least : goal.write_files-requires-clause-least
 write_files-requires-clause-least g c = grind (arith, common_steps)
+
+pub returns-in_default-clause-memory : goal.returns-in_default-clause-memory
+returns-in_default-clause-memory c = grind (arith, common_steps)
+
+pub write_total-requires : goal.write_total-requires
+write_total-requires c = grind (arith, common_steps)
+
+pub returns-in_default-clause-device : goal.returns-in_default-clause-device
+returns-in_default-clause-device c = grind (arith, common_steps)

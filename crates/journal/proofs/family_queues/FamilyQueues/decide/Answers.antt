@@ -1,4 +1,5 @@
 use Rattle.std.proofs.Common.{◌≡◌, Some, None, sym, ap, ◌∙◌, arith, rules}
+use Rattle.std.proofs.lemmas.Grind.{common_steps}
 use Rattle.std.specs.List.{slice_get, slice_set}
 use Rattle.std.proofs.lemmas.Option.{same_Some, slice_get_read, slice_get_within}
 use Rattle.journal.specs.Places.{Decided}
@@ -38,3 +39,6 @@ returns-in-None-clause-decided c = λ slot here.
     let same : c.index_mut-in-None.result.now ≡ slot = same_Some _ _ (sym again ∙ here) in
     let same = ap (λ (x : Slot). record x { phase = Decided c.args.left.now }) (same_Some _ _ (sym again ∙ here)) in
     rw link (rw link at (ap (λ (x : Slot). slice_set slots.items c.args.position x) (c.decide-in-None.ensures ∙ same)), search rules)
+
+pub index_mut-requires : goal.index_mut-requires
+index_mut-requires c = grind (arith, common_steps)

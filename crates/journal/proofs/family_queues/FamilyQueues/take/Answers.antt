@@ -1,5 +1,5 @@
 use Rattle.std.proofs.Common.{arith}
-use Rattle.std.proofs.lemmas.Grind.{elements}
+use Rattle.std.proofs.lemmas.Grind.{elements, common_steps}
 use Rattle.journal.proofs.family_queues.FamilyQueues.take.Goals as goal
 
 pub index-requires : goal.index-requires
@@ -16,3 +16,6 @@ pick-claim-requires c = grind (arith, elements)
 
 pub returns : goal.returns
 returns c = grind (arith, elements)
+
+pub returns-in_err-position : goal.returns-in_err-position
+returns-in_err-position c = grind (arith, common_steps)

@@ -1,4 +1,5 @@
-use Rattle.std.proofs.Common.{◌≡◌, ◌∙◌}
+use Rattle.std.proofs.Common.{◌≡◌, ◌∙◌, arith}
+use Rattle.std.proofs.lemmas.Grind.{common_steps}
 use Rattle.settlement.specs.Accounts.{account_in}
 use Rattle.journal.specs.FamilyQueues.{AreKept, IsKeyOf, places_of}
 use Rattle.journal.proofs.Moves.{add-kept, add-places, add-refused, end-within, grown-kept, grown-places, prepared-kept, prepared-places}
@@ -62,3 +63,6 @@ pub returns-clause-in_turn : goal.returns-clause-in_turn
 returns-clause-in_turn c =
     (add-kept c.key_of.new.names c.prepare.new.self c.add.new.self c.in-Ok.key c.args.claim c.args.year c.add.result (kept c) (key_is c) c.add.ensures.slots c.add.ensures.back
     c.add.ensures.refused).in_turn
+
+pub returns-clause-back : goal.returns-clause-back
+returns-clause-back c = grind (arith, common_steps)

@@ -1,5 +1,5 @@
 use Rattle.std.proofs.Common.{arith}
-use Rattle.std.proofs.lemmas.Grind.{elements}
+use Rattle.std.proofs.lemmas.Grind.{elements, common_steps}
 use Rattle.journal.proofs.Moves.{StaysFound, decide-kept, decide-places, work-next}
 use Rattle.journal.proofs.lanes.Lanes.decide.Goals as goal
 
@@ -32,3 +32,6 @@ returns-clause-in_turn c =
 
 pub decide-requires-clause-within : goal.decide-requires-clause-within
 decide-requires-clause-within c = grind (arith, elements)
+
+pub returns-clause-refused : goal.returns-clause-refused
+returns-clause-refused c = grind (arith, common_steps)

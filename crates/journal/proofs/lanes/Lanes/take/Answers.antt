@@ -1,3 +1,5 @@
+use Rattle.std.proofs.Common.{arith}
+use Rattle.std.proofs.lemmas.Grind.{common_steps}
 use Rattle.journal.proofs.Moves.{first-ready, take-kept, take-picked, take-places}
 use Rattle.journal.proofs.lanes.Lanes.take.Goals as goal
 
@@ -18,3 +20,6 @@ returns-clause-taken c =
 pub returns-clause-in_turn : goal.returns-clause-in_turn
 returns-clause-in_turn c =
     (take-kept c.self.inside.names c.self.inside.queues c.take.new.self c.take.result c.self.invariant c.take.ensures).in_turn
+
+pub returns-clause-unchanged : goal.returns-clause-unchanged
+returns-clause-unchanged c = grind (arith, common_steps)

@@ -1,4 +1,5 @@
-use Rattle.std.proofs.Common.{◌≡◌, true, refl, sym, ap, subst, length, get_or, Vec, Global}
+use Rattle.std.proofs.Common.{◌≡◌, true, refl, sym, ap, subst, length, get_or, Vec, Global, arith}
+use Rattle.std.proofs.lemmas.Grind.{common_steps}
 use Rattle.std.specs.List.{slice_set}
 use Rattle.std.proofs.lemmas.Option.{slice_get_read}
 use Rattle.journal.specs.LastByKey.{AccumulatorKey, last_in_map, entry_place}
@@ -22,3 +23,6 @@ returns c =
     subst (λ xs. (q : AccumulatorKey) → look (slice_set xs place put) new q ≡ look was old q) (sym same)
     (brought was c.args.key old new entry put there e.moved e.others (its_key put c.args.key.member refl) c.find.ensures)
     )
+
+pub index_mut-requires : goal.index_mut-requires
+index_mut-requires c = grind (arith, common_steps)

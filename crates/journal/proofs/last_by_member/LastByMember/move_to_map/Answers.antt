@@ -1,4 +1,5 @@
-use Rattle.std.proofs.Common.{◌≡◌, refl, sym, ap, subst, ◌∙◌, length, get_or}
+use Rattle.std.proofs.Common.{◌≡◌, refl, sym, ap, subst, ◌∙◌, length, get_or, arith}
+use Rattle.std.proofs.lemmas.Grind.{elements}
 use Rattle.std.specs.List.{slice_get}
 use Rattle.std.proofs.lemmas.Option.{slice_get_read}
 use Rattle.journal.specs.LastByKey.{AccumulatorKey, entry_place, last_in_map}
@@ -32,3 +33,6 @@ returns-clause-others c = λ q other.
     let key : AccumulatorKey = record { family = entry.family; member = c.args.key.member; year = entry.year } in
     let here : entry_place key ≡ entry_place c.args.key = sym c.place_of.ensures ∙ c.if-place_of-place.false ∙ c.place_of-place.ensures in
     not-moved key (last_in_map c.args.self.now.others) (last_in_map c.insert.new.others) entry.last c.in_ok-_before.ensures.found q (λ same. other (same ∙ here))
+
+pub returns-then-place_of-place-clause-moved : goal.returns-then-place_of-place-clause-moved
+returns-then-place_of-place-clause-moved c = grind (arith, elements)

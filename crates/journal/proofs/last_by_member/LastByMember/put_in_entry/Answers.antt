@@ -1,4 +1,5 @@
-use Rattle.std.proofs.Common.{◌≡◌, Some, true, refl, sym, ap, subst, ◌∙◌, length, get_or}
+use Rattle.std.proofs.Common.{◌≡◌, Some, true, refl, sym, ap, subst, ◌∙◌, length, get_or, arith}
+use Rattle.std.proofs.lemmas.Grind.{elements}
 use Rattle.std.specs.List.{slice_get}
 use Rattle.std.proofs.lemmas.Option.{slice_get_read, slice_get_within}
 use Rattle.journal.specs.LastByKey.{is_entry_at, is_entry_of, last_in_map, entry_place}
@@ -30,3 +31,9 @@ returns-clause-held c =
     let entries = c.args.self.now.entries.items in
     let put : MemberLast = record c.index_mut-entry.result.now { last = c.replace.new.dest } in
     rw c.place_of.ensures (ap (λ o. is_entry_at o c.args.key) (get-set-same entries (entry_place c.args.key) c.index_mut-entry.result.now put (there c)) ∙ is_its c)
+
+pub returns-clause-before : goal.returns-clause-before
+returns-clause-before c = grind (arith, elements)
+
+pub index_mut-entry-requires : goal.index_mut-entry-requires
+index_mut-entry-requires c = grind (arith, elements)

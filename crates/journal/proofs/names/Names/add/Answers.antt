@@ -1,4 +1,5 @@
-use Rattle.std.proofs.Common.{◌≡◌, ◌++◌, ◌∷◌, [], ◌∙◌, ap, length, List, ℕ}
+use Rattle.std.proofs.Common.{◌≡◌, ◌++◌, ◌∷◌, [], ◌∙◌, ap, length, List, ℕ, arith}
+use Rattle.std.proofs.lemmas.Grind.{common_steps}
 use Rattle.journal.proofs.Numbers.{Enters, distinct-names, enters, name-new, numbered-more}
 use Rattle.journal.proofs.names.Names.add.Goals as goal
 
@@ -32,3 +33,15 @@ returns-clause-distinct c =
 
 pub returns-clause-added : goal.returns-clause-added
 returns-clause-added c = following c ∙ ap (λ (names : List (List ℕ)). names ++ c.args.name.now ∷ []) c.self.view_is
+
+pub push_reserved-requires : goal.push_reserved-requires
+push_reserved-requires c = grind (arith, common_steps)
+
+pub new-requires-2 : goal.new-requires-2
+new-requires-2 c = grind (arith, common_steps)
+
+pub returns-clause-refused : goal.returns-clause-refused
+returns-clause-refused c = grind (arith, common_steps)
+
+pub same-self-in_err-number : goal.same-self-in_err-number
+same-self-in_err-number c = grind (arith, common_steps)

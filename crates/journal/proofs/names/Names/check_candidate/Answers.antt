@@ -1,4 +1,5 @@
 use Rattle.std.proofs.Common.{◌≡◌, ◌<◌, ◌∙◌, ap, sym, length, Some, arith, refl}
+use Rattle.std.proofs.lemmas.Grind.{common_steps}
 use Rattle.std.proofs.lemmas.Bool.Decides.{nat_tests}
 use Rattle.std.specs.List.{slice_get}
 use Rattle.std.proofs.lemmas.Option.{slice_get_read}
@@ -27,3 +28,9 @@ returns-then-eq-clause-distinct c = rw (← c.self.view_is) (distinct-names c.se
 
 pub returns-else-eq-clause-distinct : goal.returns-else-eq-clause-distinct
 returns-else-eq-clause-distinct c = rw (← c.self.view_is) (distinct-names c.self.inside.names.items c.self.inside.numbers c.self.invariant)
+
+pub returns-in_err-hint-clause-found : goal.returns-in_err-hint-clause-found
+returns-in_err-hint-clause-found c = grind (arith, common_steps)
+
+pub returns-in_err-there-clause-found : goal.returns-in_err-there-clause-found
+returns-in_err-there-clause-found c = grind (arith, common_steps)

@@ -1,3 +1,5 @@
+use Rattle.std.proofs.Common.{arith}
+use Rattle.std.proofs.lemmas.Grind.{common_steps}
 use Rattle.journal.proofs.Growing.{grows_added, grows_same}
 use Rattle.journal.proofs.names.Names.number.Goals as goal
 
@@ -33,3 +35,15 @@ returns-in-None-clause-grows c = grows_added c.args.self.now c.add.new.self c.ar
 
 pub returns-in-None-clause-distinct : goal.returns-in-None-clause-distinct
 returns-in-None-clause-distinct c = c.add.ensures.distinct
+
+pub returns-in-Some-check_candidate-2-clause-number : goal.returns-in-Some-check_candidate-2-clause-number
+returns-in-Some-check_candidate-2-clause-number c = grind (arith, common_steps)
+
+pub add-requires : goal.add-requires
+add-requires c = grind (arith, common_steps)
+
+pub returns-in-None-clause-number : goal.returns-in-None-clause-number
+returns-in-None-clause-number c = grind (arith, common_steps)
+
+pub returns-in-Some-check_candidate-clause-number : goal.returns-in-Some-check_candidate-clause-number
+returns-in-Some-check_candidate-clause-number c = grind (arith, common_steps)

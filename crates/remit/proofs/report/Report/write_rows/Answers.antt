@@ -1,4 +1,5 @@
-use Rattle.std.proofs.Common.{refl, ◌∙◌}
+use Rattle.std.proofs.Common.{refl, ◌∙◌, arith}
+use Rattle.std.proofs.lemmas.Grind.{common_steps}
 use Rattle.std.proofs.lemmas.Result.{err_from_is_err_and}
 use Rattle.remit.specs.RecordWriter.{at}
 use Rattle.remit.specs.Looked.{looked_up}
@@ -46,3 +47,15 @@ loop-left-preserved g c =
           row.head (rw so_far.decisions at (c.in_ok-write_row.ensures.writes row.row row.is_summary));
       decisions = c.in_ok-write_row.ensures.decisions ∙ so_far.decisions;
     }
+
+pub returns-then-is_zero-clause-decisions : goal.returns-then-is_zero-clause-decisions
+returns-then-is_zero-clause-decisions c = grind (arith, common_steps)
+
+pub returns-in_default-next-clause-decisions : goal.returns-in_default-next-clause-decisions
+returns-in_default-next-clause-decisions c = grind (arith, common_steps)
+
+pub returns-in_default-clause-decisions : goal.returns-in_default-clause-decisions
+returns-in_default-clause-decisions c = grind (arith, common_steps)
+
+pub write_row-requires : goal.write_row-requires
+write_row-requires c = grind (arith, common_steps)

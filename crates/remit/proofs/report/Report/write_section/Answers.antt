@@ -1,4 +1,5 @@
-use Rattle.std.proofs.Common.{◌≡◌, [], ◌-◌, false, get_or, is_err}
+use Rattle.std.proofs.Common.{◌≡◌, [], ◌-◌, false, get_or, is_err, arith}
+use Rattle.std.proofs.lemmas.Grind.{common_steps}
 use Rattle.remit.specs.Looked.{looked_up}
 use Rattle.remit.proofs.Cutting.{of-skipped, section-no-memory}
 use Rattle.remit.proofs.Holding.{on-ok}
@@ -23,3 +24,12 @@ returns-clause-writes g c =
     (get_or c.args.terms.now.files (c.args.section.provider - 1) []) c.in-Ok.rows c.skip_rows.new.rows c.args.section.start c.args.section.end _ _ c.write_rows.result
     c.in-Ok.ensures.apart c.in-Ok.ensures.start c.in-Ok.ensures.rows (on-ok c.skip_rows.result _ ok c.skip_rows.ensures)
     (rw c.row_limit.ensures at c.write_rows.ensures.writes)
+
+pub returns-then-is_err-clause-decisions : goal.returns-then-is_err-clause-decisions
+returns-then-is_err-clause-decisions c = grind (arith, common_steps)
+
+pub write_rows-requires : goal.write_rows-requires
+write_rows-requires c = grind (arith, common_steps)
+
+pub returns-clause-decisions : goal.returns-clause-decisions
+returns-clause-decisions c = grind (arith, common_steps)

@@ -1,4 +1,5 @@
 use Rattle.std.proofs.Common.{take, arith}
+use Rattle.std.proofs.lemmas.Grind.{elements}
 use Rattle.remit.proofs.Adding.{sums-next, sums-room}
 use Rattle.remit.proofs.sums.Sums.over.Goals as goal
 
@@ -10,3 +11,6 @@ pub loop-event-preserved : goal.loop-event-preserved
 loop-event-preserved c =
     sums-next c.args.journal.now c.loop-event.event-index c.event-item.result c.loop-event.sums c.with-sums.result c.loop-event-test.true c.event-item.is
     c.loop-event.invariant c.with-sums.ensures
+
+pub returns : goal.returns
+returns c = grind (arith, elements)

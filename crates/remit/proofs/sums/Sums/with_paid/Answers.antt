@@ -1,4 +1,5 @@
-use Rattle.std.proofs.Common.{◌≡◌, ◌<◌, pos, ◌+ℤ◌, get_or, length, ap, ◌∙◌}
+use Rattle.std.proofs.Common.{◌≡◌, ◌<◌, pos, ◌+ℤ◌, get_or, length, ap, ◌∙◌, arith}
+use Rattle.std.proofs.lemmas.Grind.{common_steps}
 use Rattle.std.proofs.lemmas.Option.{slice_get-get_or}
 use Rattle.std.specs.Prelude.{slice_index}
 use Rattle.remit.specs.declared.amount.Amount.TheVariants.{Allowed}
@@ -17,3 +18,6 @@ loop-place-preserved c =
 
 pub returns : goal.returns
 returns c = added-all c.args.decision.now c.args.self (record { units = c.loop-place.units }) c.loop-place.place c.loop-place-test.false c.loop-place.invariant
+
+pub plus-requires : goal.plus-requires
+plus-requires c = grind (arith, common_steps)

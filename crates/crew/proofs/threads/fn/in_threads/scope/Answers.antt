@@ -1,4 +1,5 @@
-use Rattle.std.proofs.Common.{◌≤◌, length, refl, ◌∙◌}
+use Rattle.std.proofs.Common.{◌≤◌, length, refl, ◌∙◌, arith}
+use Rattle.std.proofs.lemmas.Grind.{common_steps}
 use Rattle.journal.specs.Lawful.{Finished}
 use Rattle.claim_gate.specs.Terms.{ForTerms}
 use Rattle.crew.proofs.Passes.{further, further_where_ok, leaves_later_where_err, unchanged, under_known}
@@ -71,3 +72,12 @@ threads-init g c = (
   unchanged (g.G.Gate.has_pass c.captures.shared.now.gate.now) g.G.Gate.known c.captures.pass c.captures.pass c.requires.0 refl,
   c.requires.1,
 )
+
+pub spawn-requires-after_bounds : goal.spawn-requires-after_bounds
+spawn-requires-after_bounds c = grind (arith, common_steps)
+
+pub run_thread-requires-2-sync-R : goal.run_thread-requires-2-sync-R
+run_thread-requires-2-sync-R c = grind (arith, common_steps)
+
+pub run_thread-requires-2-send-G-Pass : goal.run_thread-requires-2-send-G-Pass
+run_thread-requires-2-send-G-Pass c = grind (arith, common_steps)

@@ -1,0 +1,6 @@
+use Rattle.std.proofs.Common.{arith}
+use Rattle.std.proofs.lemmas.Grind.{common_steps}
+use Rattle.plan_commands.proofs.show.refuse_old.Goals as goal
+
+pub returns-clause-not_done : goal.returns-clause-not_done
+returns-clause-not_done c = grind (arith, common_steps)
