@@ -1,6 +1,7 @@
 //! How many claims of each file are in memory before they are given. No contract knows it: a wrong number
 //! costs time or memory alone.
 
+use crate::file_queue::FileQueue;
 use crate::file_reader::FileReader;
 use claim_gate::Terms;
 use journal::Order;
@@ -22,11 +23,11 @@ const LEAST_SHARE: usize = 256;
 /// Where files are given one after another, a claim in memory for as many bytes of all files, before no
 /// further file is read ahead. One reader alone is slower than the run, so claims of later files are read
 /// while earlier ones are given.
-const BYTES_A_CLAIM_AHEAD: usize = 512;
+const BYTES_A_CLAIM_AHEAD: usize = 1_024;
 
 /// Where files are given one after another, the least number of claims in memory before no further file
 /// is read ahead. There may be more by the claims of one file.
-const LEAST_CLAIMS_AHEAD: usize = 32_768;
+const LEAST_CLAIMS_AHEAD: usize = 16_384;
 
 /// The greatest number of claims of all files in memory by day of service, or else before no further file
 /// is read ahead.
@@ -36,12 +37,17 @@ const CLAIMS_AHEAD_LIMIT: usize = 131_072;
 const BYTES_A_RECORD: usize = 64;
 
 /// Returns the maximum number of claims of the file at an index in memory.
-pub(crate) fn claims_limit(terms: &Terms, readers: &[FileReader<'_>], index: usize) -> usize {
+pub(crate) fn claims_limit(
+    terms: &Terms,
+    queues: &[FileQueue],
+    readers: &[FileReader<'_>],
+    index: usize,
+) -> usize {
     let bytes = bytes_of(terms, index);
     let Order::Files = terms.order() else {
         return share_of(bytes, bytes_of_all(terms));
     };
-    if claims_before(terms, readers, index) < claims_ahead(bytes_of_all(terms)) {
+    if claims_before(terms, queues, readers, index) < claims_ahead(bytes_of_all(terms)) {
         CLAIMS_LIMIT
     } else {
         1
@@ -64,14 +70,22 @@ fn claims_ahead(bytes_of_all: usize) -> usize {
         .min(CLAIMS_AHEAD_LIMIT)
 }
 
-// Returns about how many claims the files before an index have in memory if they reach their limits.
-fn claims_before(terms: &Terms, readers: &[FileReader<'_>], index: usize) -> usize {
+// Returns about how many claims the files before an index have in memory: those in the queue of a file
+// that is read to its end, and of any other file as many as its limit admits.
+fn claims_before(
+    terms: &Terms,
+    queues: &[FileQueue],
+    readers: &[FileReader<'_>],
+    index: usize,
+) -> usize {
     let mut claims = 0_usize;
-    for earlier in 0..index.min(readers.len()) {
-        if !readers[earlier].is_over {
-            let in_file = bytes_of(terms, earlier) / BYTES_A_RECORD;
-            claims = claims.saturating_add(in_file.min(CLAIMS_LIMIT));
-        }
+    for earlier in 0..index.min(readers.len()).min(queues.len()) {
+        let in_memory = if readers[earlier].is_over {
+            queues[earlier].claims.len()
+        } else {
+            (bytes_of(terms, earlier) / BYTES_A_RECORD).min(CLAIMS_LIMIT)
+        };
+        claims = claims.saturating_add(in_memory);
     }
     claims
 }

@@ -143,7 +143,7 @@ fn take_each(
         if readers[index].has_failed {
             return Err(AllocError);
         }
-        let limit = claims_limit(terms, readers.as_slice(), index);
+        let limit = claims_limit(terms, queues.as_slice(), readers.as_slice(), index);
         let stocked = queues[index].take_from(&mut readers[index], limit)?;
         if !stocked {
             all = false;

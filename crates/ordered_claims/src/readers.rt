@@ -68,7 +68,8 @@ impl<'t> ClaimReaders<'t> {
         ensures terms { result.terms ≡ self.entry.terms }
         ensures taken { result.taken ≡ self.entry.taken }
     {
-        read_each(rt, self.alloc, threads, self.files.as_mut_slice());
+        let useful = self.useful_threads(threads);
+        read_each(rt, self.alloc, useful, self.files.as_mut_slice());
         self
     }
 
@@ -79,6 +80,23 @@ impl<'t> ClaimReaders<'t> {
             count = count.saturating_add(file.wanted_count());
         }
         count
+    }
+
+    // Returns how many of these threads have claims to read, since each thread reads adjacent files. Where
+    // files are given one after another, this is mostly one.
+    fn useful_threads(&self, threads: usize) -> usize
+        ensures { 0 < result }
+    {
+        let files_a_thread = self.files.len().div_ceil(threads.max(1));
+        let mut count = 0_usize;
+        let mut others = 0;
+        for (index, file) in self.files.as_slice().iter().enumerate() {
+            if index >= others && file.wanted_count() > 0 {
+                count = count.saturating_add(1);
+                others = index.saturating_add(files_a_thread);
+            }
+        }
+        count.min(threads).max(1)
     }
 
     /// Gives the readers boxes of decided claims, which the next claims take. Lists of boxes that no
