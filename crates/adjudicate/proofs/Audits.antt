@@ -22,8 +22,8 @@ use Rattle.journal.specs.declared.order.Order.{Order}
 use Rattle.journal.specs.declared.order.Order.TheVariants.{Any}
 use Rattle.claim_gate.specs.Terms.{AreClaimsOf, ForTerms, IsTermsOf, TermsParts}
 use Rattle.claim_gate.specs.TermsFault.{HasTermsFault}
-use Rattle.remit.specs.Report.{IsReport}
-use Rattle.remit.specs.Writing.{WritesReport}
+use Rattle.remit_records.specs.Report.{IsReport}
+use Rattle.remit_records.specs.Writing.{WritesReport}
 use Rattle.orders.specs.Remittance.{IsOrderedRemittanceOf}
 use Rattle.evaluation.specs.declared.stop.ValueStop.TheVariants as value
 use Rattle.orders.specs.RunTexts.{AreTermsOfTexts, AreTermsUnder, IsOrderedRemittance, RunTexts, TextsHaveOneRemittance}

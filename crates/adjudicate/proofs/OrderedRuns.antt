@@ -7,7 +7,7 @@ use Rattle.journal.specs.declared.order.Order.TheVariants.{Any}
 use Rattle.journal.specs.Events.{accepts}
 use Rattle.journal.specs.InOrder.{AreFirstInOrder}
 use Rattle.claim_gate.specs.Terms.{ForTerms, IsFinishedOver, TermsParts}
-use Rattle.remit.specs.Writing.{WritesReport}
+use Rattle.remit_records.specs.Writing.{WritesReport}
 use Rattle.orders.specs.Remittance.{IsOrderedRemittanceOf}
 use Rattle.orders.specs.RunTexts.{AreTermsOfTexts, IsOrderedRemittance, RunTexts}
 use Rattle.evaluation.specs.Stop.{WritesText}

@@ -22,13 +22,13 @@ use Rattle.faults.specs.declared.terms_fault.TermsFault.TheVariants as terms
 use Rattle.crew.specs.Workers.{IsWorkerCount}
 use Rattle.faults.specs.declared.run_fault.RunFault.{RunFault}
 use Rattle.faults.specs.declared.run_fault.RunFault.TheVariants as run
-use Rattle.adjudicate.specs.ClosingText.{IsClosingText}
-use Rattle.adjudicate.specs.Notes.{AreNotes}
-use Rattle.adjudicate.specs.declared.notes.Note.{Note}
-use Rattle.remit.specs.Counts.{AreRunCounts}
-use Rattle.remit.specs.declared.counts.RunCounts.{RunCounts}
-use Rattle.remit.specs.Report.{IsReport, report_records, text_of}
-use Rattle.remit.specs.Writing.{WritesFront, WritesReport}
+use Rattle.run_lists.specs.ClosingText.{IsClosingText}
+use Rattle.run_lists.specs.Notes.{AreNotes}
+use Rattle.run_lists.specs.declared.notes.Note.{Note}
+use Rattle.remit_records.specs.Counts.{AreRunCounts}
+use Rattle.remit_records.specs.declared.counts.RunCounts.{RunCounts}
+use Rattle.remit_records.specs.Report.{IsReport, report_records, text_of}
+use Rattle.remit_records.specs.Writing.{WritesFront, WritesReport}
 use Rattle.faults.specs.declared.write_fault.WriteFault.{WriteFault}
 use Rattle.evaluation.specs.Stop.{WritesText}
 use Rattle.evaluation.specs.declared.stop.ValueStop.TheVariants as value

@@ -1,14 +1,3 @@
-pub mod CheckReport
-pub mod CheckText
-pub mod ErrorsText
-pub mod Findings
-pub mod Entries
-pub mod Charges
-pub mod Closing
-pub mod ClosingText
-pub mod Notes
-pub mod CarryingOn
-pub mod ReadingBack
 pub mod RunText
 pub mod RunStop
 pub mod Settling

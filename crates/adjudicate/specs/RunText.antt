@@ -5,14 +5,14 @@ use Rattle.journal.specs.declared.event.Event.{Event}
 use Rattle.journal.specs.Lawful.{Finished}
 use Rattle.journal.specs.Terms.{Terms}
 use Rattle.claim_gate.specs.Terms.{IsFinishedOver, IsTermsOf, TermsParts, text_in, texts_of}
-use Rattle.adjudicate.specs.ClosingText.{IsClosingText}
-use Rattle.adjudicate.specs.Notes.{AreNotes}
+use Rattle.run_lists.specs.ClosingText.{IsClosingText}
+use Rattle.run_lists.specs.Notes.{AreNotes}
 use Rattle.orders.specs.RunTexts.{AreTermsOfTexts, RunTexts}
-use Rattle.remit.specs.Counts.{AreRunCounts}
-use Rattle.remit.specs.Report.{IsReport}
-use Rattle.remit.specs.Writing.{WritesReport}
-use Rattle.remit.specs.declared.counts.RunCounts.{RunCounts}
-use Rattle.adjudicate.specs.declared.notes.Note.{Note}
+use Rattle.remit_records.specs.Counts.{AreRunCounts}
+use Rattle.remit_records.specs.Report.{IsReport}
+use Rattle.remit_records.specs.Writing.{WritesReport}
+use Rattle.remit_records.specs.declared.counts.RunCounts.{RunCounts}
+use Rattle.run_lists.specs.declared.notes.Note.{Note}
 use Rattle.adjudicate.specs.declared.run.RunInput.{RunInput}
 
 -- the texts that the references in the input of a run point to

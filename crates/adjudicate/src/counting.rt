@@ -1,15 +1,13 @@
 //! What a run is asked for beside its remittance: the counts of its records, its closing balances,
 //! and the notes of the records that need a person.
 ghost use Rattle.std.specs.Prelude.{◌≡◌, IfSome, option_map};
-ghost use Rattle.adjudicate.specs.ClosingText.{IsClosingText};
-ghost use Rattle.adjudicate.specs.Notes.{AreNotes};
-ghost use Rattle.remit.specs.Counts.{AreRunCounts};
+ghost use Rattle.run_lists.specs.ClosingText.{IsClosingText};
+ghost use Rattle.run_lists.specs.Notes.{AreNotes};
+ghost use Rattle.remit_records.specs.Counts.{AreRunCounts};
 
-use crate::closing::closing_text;
-use crate::file_sums::{FileSums, sums_of_files};
-use crate::notes::{Note, notes_of};
 use claim_gate::{Batch, Terms};
 use remit::{RunCounts, count_run};
+use run_lists::{FileSums, Note, closing_text, notes_of, sums_of_files};
 use std::alloc::Global;
 use std::mem::forget;
 use std::sync::Arc;

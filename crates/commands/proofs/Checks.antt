@@ -1,8 +1,8 @@
 -- The exit statuses of `check`, from those of its parts.
 use Rattle.std.proofs.Common.{◌≡◌, ◌≢◌, ℕ, Bool, true, false, List, inl, inr, subst}
 use Rattle.clap.specs.declared.parser.matches.ArgMatches.{ArgMatches}
-use Rattle.adjudicate.specs.declared.check.report.Findings.{Findings}
-use Rattle.adjudicate.specs.Findings.{IsReportedText}
+use Rattle.check_report.specs.declared.check.report.Findings.{Findings}
+use Rattle.check_report.specs.Findings.{IsReportedText}
 use Rattle.orders.specs.Stop.{IsPlanReason}
 use Rattle.console.specs.declared.exit_status.ExitStatus.{ExitStatus}
 use Rattle.console.specs.declared.exit_status.ExitStatus.TheVariants.{Done, Refused}

@@ -8,7 +8,7 @@ use Rattle.console.specs.declared.names.TheConstants.{AUDIT, CHECK, COMPARE, EXP
 use Rattle.console.specs.ExitStatus.{IsUnjudged}
 use Rattle.value_command.specs.Ends.{Ends, HasText, IsHelp, IsStatusOf}
 use Rattle.value_command.specs.Texts.{IsNamedPlan, Whole}
-use Rattle.adjudicate.specs.declared.check.report.Findings.{Findings}
+use Rattle.check_report.specs.declared.check.report.Findings.{Findings}
 use Rattle.orders.specs.declared.stop.Stop.{Stop}
 use Rattle.adjudicate.specs.RunStop.{IsRunReason}
 use Rattle.journal.specs.declared.order.Order.{Order}
@@ -16,7 +16,7 @@ use Rattle.journal.specs.declared.order.Order.TheVariants.{Any}
 use Rattle.orders.specs.RunTexts.{IsOrderedRemittance, RunTexts}
 use Rattle.adjudicate.specs.RunText.{IsRemittance}
 use Rattle.orders.specs.Stop.{IsPlanReason, status_of}
-use Rattle.adjudicate.specs.Findings.{IsReportedText}
+use Rattle.check_report.specs.Findings.{IsReportedText}
 use Rattle.commands.specs.declared.run.Texts.{Texts}
 use Rattle.adjudicate.specs.Audits.{IsAuditReason}
 use Rattle.commands.specs.Comparisons.{ClaimsAreCompared, ClaimsAreRefused}

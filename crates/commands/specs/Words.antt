@@ -8,8 +8,8 @@ use Rattle.journal.specs.declared.order.Order.{Order}
 use Rattle.journal.specs.declared.order.Order.TheVariants.{Any, Files, Service}
 use Rattle.value_command.specs.Words.{word_at}
 use Rattle.plan_commands.specs.Words.{IsFlag, text_at}
-use Rattle.adjudicate.specs.declared.check.report.Findings.{Findings}
-use Rattle.adjudicate.specs.declared.check.report.Findings.TheVariants.{All, Errors}
+use Rattle.check_report.specs.declared.check.report.Findings.{Findings}
+use Rattle.check_report.specs.declared.check.report.Findings.TheVariants.{All, Errors}
 
 -- the number that a text gives in decimal digits; none if there is no text
 abbrev pub IsNumber : Option (List ℕ) → Option ℕ → Type 0

@@ -5,13 +5,11 @@ ghost use Rattle.orders.specs.Stop.{status_of};
 ghost use Rattle.console.specs.declared.exit_status.ExitStatus.TheVariants.{Done};
 ghost use Rattle.console.specs.ExitStatus.{code_of};
 
+use claim_diagnostics::{FileKind, explain_file, explain_record, terms_explanation};
 use claim_gate::TermsFault;
 use console::ExitStatus;
 use console::names::{BALANCES, FILE};
-use diagnostics::{
-    FileKind, Message, explain, explain_file, explain_record, memory, run_explanation,
-    terms_explanation,
-};
+use diagnostics::{Message, explain, memory, run_explanation};
 use intake_csv::BalanceFault;
 use orders::Stop;
 use std::alloc::{AllocError, Global};

@@ -10,10 +10,10 @@ ghost use Rattle.commands.specs.Words.{AsksStrict};
 
 use crate::run::Texts;
 use crate::words::is_strict;
+use claim_diagnostics::unknown_keys;
 use clap::ArgMatches;
 use console::names::{BALANCES, FILE, SUMMARY};
 use console::{ExitStatus, no_memory};
-use diagnostics::unknown_keys;
 use plan_commands::print_lines;
 use remarks::Remarks;
 use std::alloc::AllocError;

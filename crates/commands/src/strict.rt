@@ -3,8 +3,8 @@
 ghost use Rattle.std.specs.Prelude.{IfErr};
 ghost use Rattle.commands.specs.Ends.{IsUnusedStatus};
 
+use claim_diagnostics::unknown_keys;
 use console::{ExitStatus, no_memory};
-use diagnostics::unknown_keys;
 
 /// Prints a line for each unknown key of the plan. The error is `Refused` if there is one, and `Resource` if memory ran out for the search.
 pub fn refuse_unused<R: Eprint + AllocGlobal>(rt: &R, plan: &[u8]) -> Result<(), ExitStatus>

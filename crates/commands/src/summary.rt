@@ -2,7 +2,7 @@
 
 use crate::explaining::AboutFiles;
 use adjudicate::{FileCounts, RecordCounts, RefusalCount, RunCounts};
-use diagnostics::explain_refused_record;
+use claim_diagnostics::explain_refused_record;
 use std::alloc::{AllocError, Global};
 
 /// A line with the counts of all records and the amount that the plan pays, and two lines for each file with refused records: their number and the reason

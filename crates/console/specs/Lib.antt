@@ -2,3 +2,4 @@ pub mod ExitStatus
 pub mod Limits
 pub mod Reading
 pub mod AtomicTarget
+pub mod Forms

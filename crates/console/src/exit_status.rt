@@ -9,6 +9,7 @@ ghost use Rattle.console.specs.ExitStatus.{code_of};
 use clap::Error;
 use clap::error::ErrorKind;
 use faults::push_printable;
+use std::alloc::{AllocError, Global};
 use std::io;
 
 /// How the program ends.
@@ -77,10 +78,15 @@ pub fn usage<R: Print + Eprint + AllocGlobal>(rt: &R, fault: &Error) -> ExitStat
 
 fn print_usage<R: Eprint + AllocGlobal>(rt: &R, fault: &Error) -> io::Result<()> {
     let text = format!(in rt.alloc(); "{fault}")?;
-    let mut lines = String::new(rt.alloc());
-    for line in text.as_str().lines() {
+    let lines = printable_lines(rt.alloc(), text.as_str())?;
+    rt.eprint(lines.as_str())
+}
+
+fn printable_lines(alloc: Global, text: &str) -> Result<String, AllocError> {
+    let mut lines = String::new(alloc);
+    for line in text.lines() {
         push_printable(&mut lines, line)?;
         lines.push('\n')?;
     }
-    rt.eprint(lines.as_str())
+    Ok(lines)
 }

@@ -45,26 +45,39 @@ fn outputs_apart<R: Files + Eprint + AllocGlobal>(
 ) -> Result<(), ExitStatus>
     ensures { IfErr result (λ status. status ≡ Usage) }
 {
-    if let Some(output) = words.get_str(OUTPUT)
-        && output != STREAM
-        && is_input(rt, words, output)
-    {
+    if output_is_input(rt, words) {
         let line = "error: `--output` must name a file that the command does not read";
         return Err(print_error(rt, line, ExitStatus::Usage));
     }
-    if let Some(closing) = words.get_str(CLOSING)
-        && is_taken(rt, words, closing, &[OUTPUT])
-    {
+    if has_taken_path(rt, words, CLOSING, &[OUTPUT]) {
         let line = "error: `--closing` must name a file that nothing else names";
         return Err(print_error(rt, line, ExitStatus::Usage));
     }
-    if let Some(notes) = words.get_str(NOTES)
-        && is_taken(rt, words, notes, &[OUTPUT, CLOSING])
-    {
+    if has_taken_path(rt, words, NOTES, &[OUTPUT, CLOSING]) {
         let line = "error: `--notes` must name a file that nothing else names";
         return Err(print_error(rt, line, ExitStatus::Usage));
     }
     Ok(())
+}
+
+fn output_is_input<R: Files>(files: &R, words: &ArgMatches<'_>) -> bool {
+    match words.get_str(OUTPUT) {
+        Some(output) => output != STREAM && is_input(files, words, output),
+        None => false,
+    }
+}
+
+// Whether this output has a path that is taken, by an input or by one of the other outputs.
+fn has_taken_path<R: Files + AllocGlobal>(
+    rt: &R,
+    words: &ArgMatches<'_>,
+    name: &str,
+    outputs: &[&str],
+) -> bool {
+    match words.get_str(name) {
+        Some(path) => is_taken(rt, words, path, outputs),
+        None => false,
+    }
 }
 
 // Whether a path is a stream, or leads to the file of an input or of one of these outputs.

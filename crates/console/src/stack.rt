@@ -6,7 +6,7 @@
 use std::alloc::{AllocError, Global};
 
 /// The depth in bytes to which the stack grows. Commands need less.
-const DEPTH_BYTES: usize = 0x3_8000;
+const DEPTH_BYTES: usize = 0x6_0000;
 
 /// The distance in bytes between two that are written, at most the size of a page of memory.
 const STEP_BYTES: usize = 0x1000;

@@ -1,7 +1,6 @@
-//! The help after the arguments. Each text is the result of a function of its own, since the proof of a function contains its texts whole.
+//! The help after the arguments.
 
-pub fn value_example() -> &'static str {
-    "Example:
+pub const VALUE_EXAMPLE: &str = "Example:
   adjudicate value examples/first.toml x=10
 
 An argument is a name, `=`, and an S-FEEL literal: 12.5, \"A\", true or
@@ -9,11 +8,9 @@ date(\"2024-02-29\"). Quote it for the shell. After `--` an argument can begin
 with `-`.
 
 With --rows the values come from a CSV file, whose first record names the
-columns, and the outputs and a fault follow the fields of each row."
-}
+columns, and the outputs and a fault follow the fields of each row.";
 
-pub fn check_example() -> &'static str {
-    "Example:
+pub const CHECK_EXAMPLE: &str = "Example:
   adjudicate check examples/first.toml
 
 A line `gap` gives inputs that no rule of the table covers, with a region for
@@ -23,11 +20,9 @@ together. A line `wide` names a table with too many regions to list its gaps.
 
 With --whole, a line `pends` gives a reason why claims pend, as the remittance
 has it, and the values with which they do: a name without a cell may have any
-value there. Values that no claim can have are left out."
-}
+value there. Values that no claim can have are left out.";
 
-pub fn run_example() -> &'static str {
-    "Example:
+pub const RUN_EXAMPLE: &str = "Example:
   adjudicate run --plan examples/health_plan.toml --balances examples/balances.csv \\
     examples/clinic.csv examples/hospital.csv examples/laboratory.csv
 
@@ -41,11 +36,9 @@ two runs may differ where a family has claims in several files. With --order
 files all claims of a file come before those of the next one. With --order
 service, of the next claims of all files the one with the earliest day of
 service comes first, at the same day that of the earlier file. In either order
-there is one remittance."
-}
+there is one remittance.";
 
-pub fn audit_example() -> &'static str {
-    "Example:
+pub const AUDIT_EXAMPLE: &str = "Example:
   adjudicate run --plan examples/health_plan.toml --order files \\
     --output remittance.csv examples/clinic.csv examples/laboratory.csv
   adjudicate audit --plan examples/health_plan.toml --order files \\
@@ -53,11 +46,9 @@ pub fn audit_example() -> &'static str {
 
 Give the plan, the balances, the cutoff, the order and the files of the run.
 The exit status is 0 if the remittance is the one of these texts in this order,
-byte by byte. Otherwise it is 1, and the first record that differs is printed."
-}
+byte by byte. Otherwise it is 1, and the first record that differs is printed.";
 
-pub fn explain_example() -> &'static str {
-    "Example:
+pub const EXPLAIN_EXAMPLE: &str = "Example:
   adjudicate explain --plan examples/health_plan.toml --claim 2:1 \\
     examples/clinic.csv examples/laboratory.csv
 
@@ -69,11 +60,9 @@ balances, the cutoff, the order and the files of the run.
 
 Each line is a fact: a step, the fact's name and its value. They say what came
 before the claim, what each table reads and answers, each amount, what is left
-after it, and the record of the remittance."
-}
+after it, and the record of the remittance.";
 
-pub fn test_example() -> &'static str {
-    "Example:
+pub const TEST_EXAMPLE: &str = "Example:
   adjudicate test examples/health_plan.toml examples/health_plan_tests.csv
 
 The first record names the columns. A column with a name that the tables read
@@ -84,11 +73,9 @@ without values is []. The column `fault` expects a fault, such as norule:3; an
 empty field there, and a file without that column, expect no fault.
 
 There is a line for each difference and for each row that can't be read, and
-the last line has the counts. The exit status is 0 if each row is right."
-}
+the last line has the counts. The exit status is 0 if each row is right.";
 
-pub fn compare_example() -> &'static str {
-    "Example:
+pub const COMPARE_EXAMPLE: &str = "Example:
   adjudicate compare examples/benefits_2024.toml examples/benefits_2025.toml
 
 A line says what the plans answer otherwise, the old value and the new one, and
@@ -97,31 +84,25 @@ that no claim can have are left out. Where there is no such line, the plans
 settle every claim alike.
 
 With claim files and --order, the remittances of both plans are compared, record
-by record."
-}
+by record.";
 
-pub fn names_example() -> &'static str {
-    "Example:
+pub const NAMES_EXAMPLE: &str = "Example:
   adjudicate names examples/health_plan.toml
 
 With --claims or --balances the output is the first record of such a file, to
-begin one with."
-}
+begin one with.";
 
-pub fn show_example() -> &'static str {
-    "Example:
+pub const SHOW_EXAMPLE: &str = "Example:
   adjudicate show examples/health_plan.toml
   adjudicate show --html --output plan.html examples/health_plan.toml
 
-The page needs nothing but itself: it can be sent, stored and printed."
-}
+The page needs nothing but itself: it can be sent, stored and printed.";
 
-pub fn statuses() -> &'static str {
+pub const STATUSES: &str =
     "An error is one line on standard error. With --explain, before or after the
 command, its cause and its fix follow (default on a terminal).
 
 A file name can be `-` once per command; it means standard input.
 
 Exit status: 0 success, 1 invalid input, 2 usage error,
-3 system error (I/O, memory, threads)."
-}
+3 system error (I/O, memory, threads).";

@@ -109,19 +109,33 @@ fn clear_folder<R: Files<File = File> + AllocGlobal>(
 fn has_removed<R: Files + AllocGlobal>(rt: &R, folder: &str) -> Result<bool, AllocError> {
     let mut has_removed = false;
     for number in 0..REMOVED_NAMES {
-        let path = unfinished_path(rt.alloc(), folder, number)?;
-        if fs::remove_file(rt, path.as_str()).is_ok() {
+        if has_removed_one(rt, folder, number)? {
             has_removed = true;
         }
     }
     Ok(has_removed)
 }
 
+fn has_removed_one<R: Files + AllocGlobal>(
+    rt: &R,
+    folder: &str,
+    number: u32,
+) -> Result<bool, AllocError> {
+    let path = unfinished_path(rt.alloc(), folder, number)?;
+    Ok(fs::remove_file(rt, path.as_str()).is_ok())
+}
+
 fn lock_folder<R: Files<File = File> + Clock>(rt: &R, folder: &Option<String>) -> Option<File> {
     let Some(folder) = folder else {
         return None;
     };
-    let opened = fs::open(rt, folder.as_str()).ok()?;
+    match fs::open(rt, folder.as_str()) {
+        Ok(opened) => lock_opened(rt, opened),
+        Err(_) => None,
+    }
+}
+
+fn lock_opened<R: Files<File = File> + Clock>(rt: &R, opened: File) -> Option<File> {
     for _ in 0..LOCK_TRIES {
         match opened.try_lock_shared() {
             Ok(()) => return Some(opened),

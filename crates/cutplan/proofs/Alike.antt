@@ -9,8 +9,8 @@ use Rattle.feel_tests.specs.declared.cell.Cell.{Cell}
 use Rattle.feel_tests.specs.declared.cell.Cell.TheVariants.{Dash, OneOf, NoneOf}
 use Rattle.feel_tests.specs.declared.value.Value.{Value}
 use Rattle.feel_tests.specs.declared.value.Value.TheVariants.{Number, Day}
-use Rattle.cutplan.specs.Regions.{test_literals, literals, is_open}
-use Rattle.cutplan.proofs.Integers.{Beside, equal_beside, at_most_beside, at_least_beside}
+use Rattle.regions.specs.Regions.{test_literals, literals, is_open}
+use Rattle.regions.proofs.Integers.{Beside, equal_beside, at_most_beside, at_least_beside}
 
 -- each item of a list has the property
 abbrev pub Each : {X : Type 0} → (X → Type 0) → List X → Type 0

@@ -12,8 +12,8 @@ use Rattle.feel_tests.specs.declared.value.Value.{Value}
 use Rattle.feel_tests.specs.declared.value.Value.TheVariants.{Number, Text, Flag, Day}
 use Rattle.tables.specs.declared.table.Rule.{Rule}
 use Rattle.tables.specs.Plan.{has_kind}
-use Rattle.cutplan.specs.Values.{is_before, sort_values}
-use Rattle.cutplan.specs.Regions.{literals}
+use Rattle.regions.specs.Values.{is_before, sort_values}
+use Rattle.regions.specs.Regions.{literals}
 use Rattle.cutplan.specs.CheckSteps.{fits_at, is_located_at, own_cuts, cell_holds, IsAsked}
 use Rattle.cutplan.proofs.Alike.{Among, Apart, Alike, each_from, alike_apart, holds_alike}
 use Rattle.cutplan.proofs.CutLists.{rising_only}

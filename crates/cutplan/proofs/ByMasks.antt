@@ -20,9 +20,9 @@ use Rattle.tables.specs.HitPolicy.{Gives, by_hit}
 use Rattle.tables.specs.Matching.{value_read, holds_of, cells_hold, matching, rule_matches, is_outside}
 use Rattle.tables.specs.Plan.{PlanParts}
 use Rattle.cutplan.specs.declared.compiled_column.CompiledColumn.{CompiledColumn}
-use Rattle.cutplan.specs.declared.region.Region.{Region}
-use Rattle.cutplan.specs.Values.{is_value, kind_read}
-use Rattle.cutplan.specs.Regions.{column_of, columns_from, column_literals, rule_literals, literals, regions, is_allowed, is_in, table_regions}
+use Rattle.regions.specs.declared.region.Region.{Region}
+use Rattle.regions.specs.Values.{is_value, kind_read}
+use Rattle.regions.specs.Regions.{column_of, columns_from, column_literals, rule_literals, literals, regions, is_allowed, is_in, table_regions}
 use Rattle.cutplan.specs.Check.{rule_cells}
 use Rattle.cutplan.specs.Masks.{has_rule, rules_in, is_marked, Marks, AreMasks, AreMasksOf, IsColumnNumber}
 use Rattle.cutplan.specs.Matching.{has_at, IsMatchingMask}

@@ -6,7 +6,7 @@ use Rattle.std.proofs.lemmas.List.{length-map}
 use Rattle.std.proofs.lemmas.Nat.{div-mul-add, mod-mul-add}
 use Rattle.std.proofs.lemmas.Option.{none-some, same_Some, get_or_from_slice_get}
 use Rattle.cutplan.specs.declared.compiled_column.CompiledColumn.{CompiledColumn}
-use Rattle.cutplan.specs.declared.region.Region.{Region}
+use Rattle.regions.specs.declared.region.Region.{Region}
 use Rattle.cutplan.specs.Check.{cells}
 use Rattle.cutplan.specs.CompiledColumns.{regions_kept}
 use Rattle.cutplan.specs.Numbered.{cell_limit}

@@ -7,8 +7,8 @@ use Rattle.std.proofs.lemmas.Bool.{cases_lt, lt-ltb, le-ltb, eq-eqb, ne_eqb}
 use Rattle.feel_tests.specs.declared.cell.Cell.{Cell}
 use Rattle.tables.specs.declared.table.Rule.{Rule}
 use Rattle.tables.specs.declared.table.Table.{Table}
-use Rattle.cutplan.specs.declared.region.Region.{Region}
-use Rattle.cutplan.specs.Regions.{holds_in}
+use Rattle.regions.specs.declared.region.Region.{Region}
+use Rattle.regions.specs.Regions.{holds_in}
 use Rattle.cutplan.specs.Masks.{has_rule, is_marked, AreMasks, Marks}
 use Rattle.cutplan.specs.CheckSteps.{cell_holds_in, column_cells, holds_among, AreMasksBy}
 

@@ -10,10 +10,10 @@ use Rattle.tables.specs.Environment.{env}
 use Rattle.tables.specs.Inputs.{value_at}
 use Rattle.tables.specs.Plan.{PlanParts, IsPlan}
 use Rattle.tables.proofs.NeededNames.{within_names}
-use Rattle.cutplan.specs.declared.region.Region.TheVariants.{Other}
+use Rattle.regions.specs.declared.region.Region.TheVariants.{Other}
 use Rattle.cutplan.specs.declared.input_class.CompiledName.{CompiledName}
 use Rattle.cutplan.specs.Matching.{has_at, OthersRise}
-use Rattle.cutplan.specs.Values.{is_value}
+use Rattle.regions.specs.Values.{is_value}
 use Rattle.cutplan.specs.InputClasses.{AreCompiledNames, IsKeptName, IsPlaceIn, IsInputClass, LiesIn, ReadsItsNames, ClassesAnswerAlike, name_kind, name_literals, name_regions, names_read, number_of, with_place}
 use Rattle.cutplan.proofs.Alike.{Among}
 use Rattle.cutplan.proofs.ColumnWise.{among_contained}

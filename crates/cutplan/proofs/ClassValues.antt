@@ -18,7 +18,7 @@ use Rattle.tables.specs.HitPolicy.{TableValue, by_hit}
 use Rattle.tables.specs.Inputs.{needs, reads, value_at}
 use Rattle.tables.specs.Matching.{value_read, holds_of, cells_hold, matching, rule_matches, is_outside, first_outside}
 use Rattle.tables.specs.Plan.{PlanParts}
-use Rattle.cutplan.specs.Regions.{column_literals, literals, rule_literals, is_in}
+use Rattle.regions.specs.Regions.{column_literals, literals, rule_literals, is_in}
 use Rattle.cutplan.specs.InputClasses.{LiesIn, IsInputClass, ReadsItsNames, ClassesAnswerAlike, input_literals, name_kind, name_literals, name_regions, names_read, region_counts, table_literals, with_place}
 use Rattle.cutplan.proofs.Alike.{Among, among_left, among_right}
 use Rattle.cutplan.proofs.Between.{index_within}

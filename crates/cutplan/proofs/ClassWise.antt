@@ -17,7 +17,7 @@ use Rattle.tables.specs.HitPolicy.{TableValue, by_hit}
 use Rattle.tables.specs.Inputs.{needs, reads, value_at}
 use Rattle.tables.specs.Matching.{value_read, holds_of, cells_hold, matching, rule_matches, is_outside, first_outside}
 use Rattle.tables.specs.Plan.{PlanParts}
-use Rattle.cutplan.specs.Regions.{column_literals, literals, rule_literals}
+use Rattle.regions.specs.Regions.{column_literals, literals, rule_literals}
 use Rattle.cutplan.specs.InputClasses.{input_literals, name_kind, name_literals, table_literals}
 use Rattle.cutplan.specs.ClassWise.{Covers, LiesInClass, Zone, ClassesAreValued, answers_in, cell_holds_in, cells_hold_in, first_outside_in, is_outside_in, matching_in, regions_by, rule_matches_in, table_value_in}
 use Rattle.cutplan.proofs.Alike.{Among, among_left, among_right}

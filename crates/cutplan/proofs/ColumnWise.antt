@@ -12,9 +12,9 @@ use Rattle.feel_tests.specs.declared.kind.Kind.{Kind}
 use Rattle.feel_tests.specs.declared.kind.Kind.TheVariants as kinds
 use Rattle.feel_tests.specs.declared.value.Value.TheVariants.{Number, Text, Flag, Day}
 use Rattle.tables.specs.Plan.{PlanParts, has_kind}
-use Rattle.cutplan.specs.declared.region.Region.{Region}
-use Rattle.cutplan.specs.Values.{is_value, kind_read}
-use Rattle.cutplan.specs.Regions.{Column, columns_from, column_of, column_literals, rule_literals, literals, regions, stretches, is_listed, is_in}
+use Rattle.regions.specs.declared.region.Region.{Region}
+use Rattle.regions.specs.Values.{is_value, kind_read}
+use Rattle.regions.specs.Regions.{Column, columns_from, column_of, column_literals, rule_literals, literals, regions, stretches, is_listed, is_in}
 use Rattle.cutplan.specs.Laws.{CellsHoldAlike}
 use Rattle.cutplan.proofs.Alike.{Among, each_from, Alike, holds_alike, among_left, among_right}
 use Rattle.cutplan.proofs.Regionwise.{region_alike}

@@ -11,11 +11,11 @@ use Rattle.tables.specs.declared.table.Input.{Input}
 use Rattle.tables.specs.declared.table.Table.{Table}
 use Rattle.tables.specs.Plan.{PlanParts, IsPlan}
 use Rattle.cutplan.specs.declared.compiled_column.CompiledColumn.{CompiledColumn}
-use Rattle.cutplan.specs.declared.region.Region.{Region}
+use Rattle.regions.specs.declared.region.Region.{Region}
 use Rattle.cutplan.specs.CheckSteps.{holds_among, AreMasksBy}
 use Rattle.cutplan.specs.Masks.{Marks, IsColumnNumber}
 use Rattle.cutplan.specs.CompiledColumns.{regions_kept, AreColumnsOf, AreCompiledColumns, AreMasked, IsCut, IsCompiledColumn}
-use Rattle.cutplan.specs.Regions.{column_of, columns_from, regions, table_regions}
+use Rattle.regions.specs.Regions.{column_of, columns_from, regions, table_regions}
 
 all_push : {X Y : Type 0} (R : X → Y → Type 0) (xs : List X) (ys : List Y) (x : X) (y : Y) → AllZip R xs ys → R x y → AllZip R (xs ++ x ∷ []) (ys ++ y ∷ [])
 all_push R [] [] x y all r = (r, tt)

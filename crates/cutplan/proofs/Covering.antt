@@ -6,8 +6,8 @@ use Rattle.std.proofs.lemmas.Bool.{ne_eqb}
 use Rattle.feel_tests.specs.declared.cell.Cell.{Cell}
 use Rattle.tables.specs.declared.table.Rule.{Rule}
 use Rattle.tables.specs.declared.table.Table.{Table}
-use Rattle.cutplan.specs.declared.region.Region.{Region}
-use Rattle.cutplan.specs.Regions.{holds_in}
+use Rattle.regions.specs.declared.region.Region.{Region}
+use Rattle.regions.specs.Regions.{holds_in}
 use Rattle.cutplan.specs.Check.{covers, holds_at, rule_cells}
 use Rattle.cutplan.specs.CheckSteps.{uncovered, alive_in}
 use Rattle.cutplan.proofs.Steps.{any_kept, any_agrees, first_of_rest, rest_of_rest}

@@ -12,9 +12,9 @@ use Rattle.tables.specs.declared.table.Input.{Input}
 use Rattle.tables.specs.declared.table.Rule.{Rule}
 use Rattle.tables.specs.declared.table.Table.{Table}
 use Rattle.tables.specs.Plan.{PlanParts}
-use Rattle.cutplan.specs.declared.region.Region.{Region}
-use Rattle.cutplan.specs.Values.{is_value, kind_read}
-use Rattle.cutplan.specs.Regions.{columns, columns_from, column_of, column_literals, rule_literals, literals, regions, stretches, is_listed, is_allowed, is_in, holds_in, table_regions}
+use Rattle.regions.specs.declared.region.Region.{Region}
+use Rattle.regions.specs.Values.{is_value, kind_read}
+use Rattle.regions.specs.Regions.{columns, columns_from, column_of, column_literals, rule_literals, literals, regions, stretches, is_listed, is_allowed, is_in, holds_in, table_regions}
 use Rattle.cutplan.specs.Check.{is_allowed_tuple, fits, lies_in, cells, covers, gaps}
 use Rattle.cutplan.specs.Laws.{ReportsGaps}
 use Rattle.cutplan.proofs.Alike.{Among, among_left}

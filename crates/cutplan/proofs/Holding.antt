@@ -17,12 +17,12 @@ use Rattle.feel_tests.specs.declared.value.Value.TheVariants.{Number, Text, Flag
 use Rattle.tables.specs.declared.table.Input.{Input}
 use Rattle.tables.specs.declared.table.Table.{Table}
 use Rattle.tables.specs.Plan.{PlanParts, has_kind}
-use Rattle.cutplan.specs.declared.region.Region.{Region}
-use Rattle.cutplan.specs.declared.region.Region.TheVariants.{Below, At, Between, Above, Other, Every}
-use Rattle.cutplan.specs.Values.{is_value, kind_read, sort_values}
-use Rattle.cutplan.specs.Regions.{Column, column_of, column_literals, rule_literals, literals, regions, stretches, regions_of_order, regions_of_names, has_value, holds_in, is_listed, is_allowed, is_in, least_like, next}
+use Rattle.regions.specs.declared.region.Region.{Region}
+use Rattle.regions.specs.declared.region.Region.TheVariants.{Below, At, Between, Above, Other, Every}
+use Rattle.regions.specs.Values.{is_value, kind_read, sort_values}
+use Rattle.regions.specs.Regions.{Column, column_of, column_literals, rule_literals, literals, regions, stretches, regions_of_order, regions_of_names, has_value, holds_in, is_listed, is_allowed, is_in, least_like, next}
 use Rattle.cutplan.specs.Laws.{RegionsHoldValues}
-use Rattle.cutplan.proofs.Integers.{lt_true}
+use Rattle.regions.proofs.Integers.{lt_true}
 use Rattle.cutplan.proofs.Alike.{Among, each_at, among_right}
 use Rattle.cutplan.proofs.CutLists.{equal_itself, rising_only}
 use Rattle.cutplan.proofs.Regionwise.{among_split}

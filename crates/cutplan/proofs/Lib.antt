@@ -2,13 +2,11 @@ pub mod Steps
 pub mod Covering
 pub mod Counting
 pub mod Pairing
-pub mod Integers
 pub mod Alike
 pub mod Ordered
 pub mod CutLists
 pub mod Regionwise
 pub mod ColumnWise
-pub mod Ranges
 pub mod OpenRegions
 pub mod Parting
 pub mod GapLists

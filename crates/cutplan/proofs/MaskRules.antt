@@ -15,9 +15,9 @@ use Rattle.feel_tests.specs.Holds.{holds}
 use Rattle.feel_tests.specs.declared.value.Value.{Value}
 use Rattle.tables.specs.Plan.{PlanParts}
 use Rattle.tables.specs.declared.table.Input.{Input}
-use Rattle.cutplan.specs.declared.region.Region.{Region}
+use Rattle.regions.specs.declared.region.Region.{Region}
 use Rattle.cutplan.specs.Check.{rule_cells}
-use Rattle.cutplan.specs.Regions.{column_of, holds_in, is_allowed, is_in, regions}
+use Rattle.regions.specs.Regions.{column_of, holds_in, is_allowed, is_in, regions}
 use Rattle.cutplan.specs.Masks.{has_rule, rules_in, is_marked, Marks}
 use Rattle.cutplan.proofs.Alike.{Among}
 use Rattle.cutplan.proofs.GapLists.{asks_alike}

@@ -15,9 +15,9 @@ use Rattle.tables.specs.declared.table.Input.{Input}
 use Rattle.tables.specs.declared.table.Table.{Table}
 use Rattle.tables.specs.Matching.{value_read, holds_of, cells_hold, rule_matches, matching, is_outside}
 use Rattle.tables.specs.Plan.{PlanParts, has_kind}
-use Rattle.cutplan.specs.declared.region.Region.{Region}
-use Rattle.cutplan.specs.Values.{is_value, kind_read, sort_values}
-use Rattle.cutplan.specs.Regions.{Column, columns, columns_from, column_of, column_literals, rule_literals, literals, regions, stretches, has_value, holds_in, is_listed, is_allowed, is_in, table_regions}
+use Rattle.regions.specs.declared.region.Region.{Region}
+use Rattle.regions.specs.Values.{is_value, kind_read, sort_values}
+use Rattle.regions.specs.Regions.{Column, columns, columns_from, column_of, column_literals, rule_literals, literals, regions, stretches, has_value, holds_in, is_listed, is_allowed, is_in, table_regions}
 use Rattle.cutplan.specs.Check.{is_allowed_tuple, fits, rule_cells, lies_in, cells, covers, gaps}
 use Rattle.cutplan.specs.Laws.{ReadsTuple, are_values, FitsAreMatches, AllowedAreInside, GapsMatchNothing, OverlapsMatchTogether}
 use Rattle.cutplan.proofs.Alike.{Among, among_right}

@@ -8,7 +8,7 @@ use Rattle.std.proofs.lemmas.List.{length-map}
 use Rattle.std.proofs.lemmas.Nat.Bits.{bit_at-zero, bit_at-trailing_zeros}
 use Rattle.tables.specs.declared.table.Table.{Table}
 use Rattle.cutplan.specs.declared.compiled_column.CompiledColumn.{CompiledColumn}
-use Rattle.cutplan.specs.declared.region.Region.{Region}
+use Rattle.regions.specs.declared.region.Region.{Region}
 use Rattle.cutplan.specs.CompiledColumns.{regions_kept}
 use Rattle.cutplan.specs.Check.{holds_at}
 use Rattle.cutplan.specs.Masks.{has_rule, rules_in, is_marked, AreMasks, HasOnlyFirst, Marks}

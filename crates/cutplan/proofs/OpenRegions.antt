@@ -18,11 +18,11 @@ use Rattle.feel_tests.specs.declared.kind.Kind.{Kind}
 use Rattle.feel_tests.specs.declared.kind.Kind.TheVariants as kinds
 use Rattle.feel_tests.specs.declared.value.Value.{Value}
 use Rattle.feel_tests.specs.declared.value.Value.TheVariants.{Number, Text, Flag, Day}
-use Rattle.cutplan.specs.declared.region.Region.{Region}
-use Rattle.cutplan.specs.declared.region.Region.TheVariants.{Below, At, Between, Above, Other, Every}
-use Rattle.cutplan.specs.Values.{is_value, sort_values}
-use Rattle.cutplan.specs.Regions.{stretches, regions_of_order, regions_of_names, from_cut, is_in, literals, has_value, holds_in, holds_of, least_like, next}
-use Rattle.cutplan.proofs.Integers.{lt_true, lt_from, lt_false, le_true, le_so, le_not}
+use Rattle.regions.specs.declared.region.Region.{Region}
+use Rattle.regions.specs.declared.region.Region.TheVariants.{Below, At, Between, Above, Other, Every}
+use Rattle.regions.specs.Values.{is_value, sort_values}
+use Rattle.regions.specs.Regions.{stretches, regions_of_order, regions_of_names, from_cut, is_in, literals, has_value, holds_in, holds_of, least_like, next}
+use Rattle.regions.proofs.Integers.{lt_true, lt_from, lt_false, le_true, le_so, le_not}
 use Rattle.cutplan.proofs.Alike.{Each, Among, each_at, each_from, Alike, holds_alike, Apart, holds_apart}
 use Rattle.cutplan.proofs.Ordered.{Ranked}
 use Rattle.cutplan.proofs.CutLists.{RisingCuts, Made, equal_same}

@@ -8,10 +8,10 @@ use Rattle.std.proofs.lemmas.Bool.{and_parts}
 use Rattle.std.proofs.lemmas.List.Sums.{sum_by-cons}
 use Rattle.feel_tests.specs.Holds.{is_equal, is_less}
 use Rattle.feel_tests.specs.declared.value.Value.{Value}
-use Rattle.cutplan.specs.declared.region.Region.{Region}
-use Rattle.cutplan.specs.declared.region.Region.TheVariants.{Below, At, Between, Above}
-use Rattle.cutplan.specs.Regions.{regions_of_order, from_cut, is_in}
-use Rattle.cutplan.proofs.Integers.{Beside, beside_same, beside_below, beside_above, lt_true, lt_false, lt_from, same_from, eq_true, eq_below, eq_above}
+use Rattle.regions.specs.declared.region.Region.{Region}
+use Rattle.regions.specs.declared.region.Region.TheVariants.{Below, At, Between, Above}
+use Rattle.regions.specs.Regions.{regions_of_order, from_cut, is_in}
+use Rattle.regions.proofs.Integers.{Beside, beside_same, beside_below, beside_above, lt_true, lt_false, lt_from, same_from, eq_true, eq_below, eq_above}
 use Rattle.cutplan.proofs.Alike.{Each, Among}
 
 -- numbers or days: values made of whole numbers, with the order of the numbers

@@ -10,8 +10,8 @@ use Rattle.tables.specs.declared.table.Input.{Input}
 use Rattle.tables.specs.declared.table.Rule.{Rule}
 use Rattle.tables.specs.declared.table.Table.{Table}
 use Rattle.tables.specs.Plan.{PlanParts}
-use Rattle.cutplan.specs.declared.region.Region.{Region}
-use Rattle.cutplan.specs.Regions.{columns_from, column_of, regions, is_allowed, is_in, holds_in, table_regions}
+use Rattle.regions.specs.declared.region.Region.{Region}
+use Rattle.regions.specs.Regions.{columns_from, column_of, regions, is_allowed, is_in, holds_in, table_regions}
 use Rattle.cutplan.specs.Check.{is_allowed_tuple, fits, rule_cells, holds_at, meet, meet_in, overlaps, pairs, pairs_with}
 use Rattle.cutplan.specs.Laws.{ReportsOverlaps}
 use Rattle.cutplan.proofs.Alike.{Among, among_left, among_right}

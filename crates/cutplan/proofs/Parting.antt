@@ -13,10 +13,10 @@ use Rattle.feel_tests.specs.declared.value.Value.TheVariants.{Number, Text, Flag
 use Rattle.tables.specs.declared.table.Input.{Input}
 use Rattle.tables.specs.declared.table.Table.{Table}
 use Rattle.tables.specs.Plan.{PlanParts, has_kind}
-use Rattle.cutplan.specs.declared.region.Region.{Region}
-use Rattle.cutplan.specs.declared.region.Region.TheVariants.{At, Other}
-use Rattle.cutplan.specs.Values.{is_value, kind_read, sort_values}
-use Rattle.cutplan.specs.Regions.{column_of, column_literals, rule_literals, literals, regions, stretches, regions_of_order, regions_of_names, is_listed, is_allowed, is_in, has_value, holds_in}
+use Rattle.regions.specs.declared.region.Region.{Region}
+use Rattle.regions.specs.declared.region.Region.TheVariants.{At, Other}
+use Rattle.regions.specs.Values.{is_value, kind_read, sort_values}
+use Rattle.regions.specs.Regions.{column_of, column_literals, rule_literals, literals, regions, stretches, regions_of_order, regions_of_names, is_listed, is_allowed, is_in, has_value, holds_in}
 use Rattle.cutplan.specs.Laws.{RegionsPartValues}
 use Rattle.cutplan.proofs.Alike.{Each, Among, each_from, among_right}
 use Rattle.cutplan.proofs.Ordered.{counted, none_if, one_if, count_no, count_yes, one_region}

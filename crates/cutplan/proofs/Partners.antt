@@ -9,7 +9,7 @@ use Rattle.std.proofs.lemmas.List.Elements.{filter-append}
 use Rattle.std.proofs.lemmas.Option.{same_Some}
 use Rattle.std.proofs.lemmas.Nat.Bits.{bit_at_or, bit_at-lt}
 use Rattle.tables.specs.declared.table.Table.{Table}
-use Rattle.cutplan.specs.declared.region.Region.{Region}
+use Rattle.regions.specs.declared.region.Region.{Region}
 use Rattle.cutplan.specs.Check.{holds_at, meet, meet_in, pairs, pairs_with}
 use Rattle.cutplan.specs.declared.compiled_column.CompiledColumn.{CompiledColumn}
 use Rattle.cutplan.specs.CompiledColumns.{masks_kept, regions_kept, AreMasked}

@@ -5,11 +5,11 @@ use Rattle.std.specs.Option.{option_map_or}
 use Rattle.std.proofs.lemmas.List.{length-map}
 use Rattle.std.proofs.lemmas.List.Concat.{flat_map-append}
 use Rattle.tables.specs.declared.table.Table.{Table}
-use Rattle.cutplan.specs.declared.region.Region.{Region}
+use Rattle.regions.specs.declared.region.Region.{Region}
 use Rattle.cutplan.specs.Check.{cells, gaps}
 use Rattle.cutplan.specs.CheckSteps.{alive_in, uncovered}
 use Rattle.cutplan.specs.Places.{is_gap, places, PlacesAreGaps}
-use Rattle.cutplan.specs.Regions.{table_regions}
+use Rattle.regions.specs.Regions.{table_regions}
 use Rattle.cutplan.proofs.Covering.{gap_is, uncovered_end, uncovered_step}
 use Rattle.cutplan.proofs.Compiling.{at_number}
 use Rattle.cutplan.proofs.Steps.{flat_more}

@@ -7,11 +7,11 @@ use Rattle.feel_tests.specs.declared.kind.Kind.{Kind}
 use Rattle.feel_tests.specs.declared.kind.Kind.TheVariants as kinds
 use Rattle.feel_tests.specs.declared.value.Value.{Value}
 use Rattle.feel_tests.specs.declared.value.Value.TheVariants.{Number, Text, Flag, Day}
-use Rattle.cutplan.specs.declared.region.Region.{Region}
-use Rattle.cutplan.specs.declared.region.Region.TheVariants.{At, Other}
+use Rattle.regions.specs.declared.region.Region.{Region}
+use Rattle.regions.specs.declared.region.Region.TheVariants.{At, Other}
 use Rattle.tables.specs.Plan.{has_kind}
-use Rattle.cutplan.specs.Values.{sort_values}
-use Rattle.cutplan.specs.Regions.{stretches, regions_of_order, regions_of_names, is_in}
+use Rattle.regions.specs.Values.{sort_values}
+use Rattle.regions.specs.Regions.{stretches, regions_of_order, regions_of_names, is_in}
 use Rattle.cutplan.proofs.Alike.{Each, Among, each_at, Alike, Apart, alike_apart, alike_same, alike_number, alike_day}
 use Rattle.cutplan.proofs.Ordered.{Ranked, OneSide, sides}
 use Rattle.cutplan.proofs.CutLists.{Placed, RisingCuts, rising_cuts, Made, fold_has, equal_same}

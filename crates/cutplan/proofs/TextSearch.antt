@@ -17,10 +17,10 @@ use Rattle.feel_tests.specs.declared.value.Value.TheVariants.{Text, Flag}
 use Rattle.tables.specs.declared.table.Table.{Table}
 use Rattle.tables.specs.Plan.{has_kind}
 use Rattle.cutplan.specs.declared.compiled_column.CompiledColumn.{CompiledColumn}
-use Rattle.cutplan.specs.declared.region.Region.{Region}
-use Rattle.cutplan.specs.declared.region.Region.TheVariants.{At, Other}
-use Rattle.cutplan.specs.Values.{is_before, kind_read, sort_values}
-use Rattle.cutplan.specs.Regions.{column_literals, from_cut, regions_of_order, regions_of_names, stretches, is_listed}
+use Rattle.regions.specs.declared.region.Region.{Region}
+use Rattle.regions.specs.declared.region.Region.TheVariants.{At, Other}
+use Rattle.regions.specs.Values.{is_before, kind_read, sort_values}
+use Rattle.regions.specs.Regions.{column_literals, from_cut, regions_of_order, regions_of_names, stretches, is_listed}
 use Rattle.cutplan.specs.Matching.{bytes_of, AreRisingTexts, OthersRise}
 use Rattle.cutplan.specs.CompiledColumns.{AreKept}
 use Rattle.cutplan.proofs.Alike.{Among}

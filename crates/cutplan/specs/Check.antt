@@ -7,8 +7,8 @@ use Rattle.feel_tests.specs.declared.cell.Cell.{Cell}
 use Rattle.feel_tests.specs.declared.value.Value.{Value}
 use Rattle.tables.specs.declared.table.Table.{Table}
 use Rattle.tables.specs.Plan.{PlanParts}
-use Rattle.cutplan.specs.declared.region.Region.{Region}
-use Rattle.cutplan.specs.Regions.{Column, columns, is_allowed, is_in, holds_in, table_regions}
+use Rattle.regions.specs.declared.region.Region.{Region}
+use Rattle.regions.specs.Regions.{Column, columns, is_allowed, is_in, holds_in, table_regions}
 
 -- each value of the tuple is allowed in its column
 abbrev pub is_allowed_tuple : List Column → List Value → Bool

@@ -8,12 +8,12 @@ use Rattle.feel_tests.specs.declared.kind.Kind.{Kind}
 use Rattle.feel_tests.specs.declared.value.Value.{Value}
 use Rattle.tables.specs.declared.table.Rule.{Rule}
 use Rattle.tables.specs.declared.table.Table.{Table}
-use Rattle.cutplan.specs.declared.region.Region.{Region}
-use Rattle.cutplan.specs.declared.region.Region.TheVariants.{Below, At, Between, Above, Other, Every}
+use Rattle.regions.specs.declared.region.Region.{Region}
+use Rattle.regions.specs.declared.region.Region.TheVariants.{Below, At, Between, Above, Other, Every}
 use Rattle.tables.specs.Plan.{has_kind}
 use Rattle.cutplan.specs.Masks.{has_rule, Marks}
-use Rattle.cutplan.specs.Regions.{rule_literals, least_like, next, holds_in}
-use Rattle.cutplan.specs.Values.{is_before, sort_values}
+use Rattle.regions.specs.Regions.{rule_literals, least_like, next, holds_in}
+use Rattle.regions.specs.Values.{is_before, sort_values}
 use Rattle.cutplan.specs.Check.{covers, holds_at, rule_cells}
 
 -- the literals with one more, if it is of the kind

@@ -17,9 +17,9 @@ use Rattle.tables.specs.HitPolicy.{TableValue, by_hit}
 use Rattle.tables.specs.Inputs.{needs, value_at}
 use Rattle.tables.specs.Matching.{earlier_value, holds_of}
 use Rattle.tables.specs.Plan.{PlanParts, has_kind}
-use Rattle.cutplan.specs.declared.region.Region.{Region}
-use Rattle.cutplan.specs.Regions.{holds_in, is_in, stretches}
-use Rattle.cutplan.specs.Values.{is_value, sort_values}
+use Rattle.regions.specs.declared.region.Region.{Region}
+use Rattle.regions.specs.Regions.{holds_in, is_in, stretches}
+use Rattle.regions.specs.Values.{is_value, sort_values}
 use Rattle.cutplan.specs.InputClasses.{name_kind, name_literals}
 
 -- an input class: the region of each name, by the index of the name

@@ -10,9 +10,9 @@ use Rattle.tables.specs.Matching.{value_read}
 use Rattle.tables.specs.Plan.{PlanParts}
 use Rattle.cutplan.specs.declared.compiled_column.CompiledColumn.{CompiledColumn}
 use Rattle.cutplan.specs.declared.partition.Partition.{Partition}
-use Rattle.cutplan.specs.declared.region.Region.{Region}
-use Rattle.cutplan.specs.Values.{kind_read}
-use Rattle.cutplan.specs.Regions.{column_of, regions}
+use Rattle.regions.specs.declared.region.Region.{Region}
+use Rattle.regions.specs.Values.{kind_read}
+use Rattle.regions.specs.Regions.{column_of, regions}
 use Rattle.cutplan.specs.Masks.{AreMasks}
 use Rattle.cutplan.specs.Matching.{IsPlaceOf}
 

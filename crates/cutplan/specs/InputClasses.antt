@@ -12,10 +12,10 @@ use Rattle.tables.specs.Environment.{env}
 use Rattle.tables.specs.Inputs.{needs, reads, value_at}
 use Rattle.tables.specs.Plan.{PlanParts, has_kind}
 use Rattle.cutplan.specs.declared.partition.Partition.{Partition}
-use Rattle.cutplan.specs.declared.region.Region.{Region}
+use Rattle.regions.specs.declared.region.Region.{Region}
 use Rattle.cutplan.specs.declared.input_class.CompiledName.{CompiledName}
-use Rattle.cutplan.specs.Values.{is_value, kind_read, sort_values}
-use Rattle.cutplan.specs.Regions.{column_literals, stretches}
+use Rattle.regions.specs.Values.{is_value, kind_read, sort_values}
+use Rattle.regions.specs.Regions.{column_literals, stretches}
 use Rattle.cutplan.specs.Matching.{has_at, IsPlaceOf}
 
 -- the literals of a table's column, if its input reads the name

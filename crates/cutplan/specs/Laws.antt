@@ -11,9 +11,9 @@ use Rattle.tables.specs.declared.table.Rule.{Rule}
 use Rattle.tables.specs.declared.table.Table.{Table}
 use Rattle.tables.specs.Matching.{value_read, matching, first_outside}
 use Rattle.tables.specs.Plan.{PlanParts, has_kind}
-use Rattle.cutplan.specs.declared.region.Region.{Region}
-use Rattle.cutplan.specs.Values.{is_value, is_before}
-use Rattle.cutplan.specs.Regions.{Column, columns, column_literals, regions, is_allowed, is_in}
+use Rattle.regions.specs.declared.region.Region.{Region}
+use Rattle.regions.specs.Values.{is_value, is_before}
+use Rattle.regions.specs.Regions.{Column, columns, column_literals, regions, is_allowed, is_in}
 use Rattle.cutplan.specs.Check.{IsGap, IsOverlap, is_allowed_tuple, fits, rule_cells, lies_in, gaps, overlaps}
 
 -- each allowed value of a column lies in exactly one of its regions

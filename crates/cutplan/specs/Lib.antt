@@ -1,5 +1,3 @@
-pub mod Values
-pub mod Regions
 pub mod Check
 pub mod Numbered
 pub mod CheckSteps

@@ -8,8 +8,8 @@ use Rattle.tables.specs.declared.inputs.Slot.{Slot}
 use Rattle.tables.specs.declared.table.Table.{Table}
 use Rattle.tables.specs.Matching.{matching, rule_matches}
 use Rattle.tables.specs.Plan.{PlanParts}
-use Rattle.cutplan.specs.declared.region.Region.{Region}
-use Rattle.cutplan.specs.Regions.{table_regions}
+use Rattle.regions.specs.declared.region.Region.{Region}
+use Rattle.regions.specs.Regions.{table_regions}
 use Rattle.cutplan.specs.Check.{holds_at}
 
 -- the bit of the rule is set in the mask

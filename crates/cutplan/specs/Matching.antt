@@ -16,10 +16,10 @@ use Rattle.tables.specs.declared.table.Table.{Table}
 use Rattle.tables.specs.Matching.{rule_matches, first_outside}
 use Rattle.tables.specs.Plan.{has_kind}
 use Rattle.cutplan.specs.declared.partition.Partition.{Partition}
-use Rattle.cutplan.specs.declared.region.Region.{Region}
-use Rattle.cutplan.specs.declared.region.Region.TheVariants.{Other}
-use Rattle.cutplan.specs.Regions.{is_in}
-use Rattle.cutplan.specs.Values.{is_value}
+use Rattle.regions.specs.declared.region.Region.{Region}
+use Rattle.regions.specs.declared.region.Region.TheVariants.{Other}
+use Rattle.regions.specs.Regions.{is_in}
+use Rattle.regions.specs.Values.{is_value}
 use Rattle.cutplan.specs.Masks.{Marks}
 
 -- the region at this index exists and contains the value

@@ -4,8 +4,8 @@ use Rattle.std.specs.Option.{option_map_or}
 use Rattle.tables.specs.Plan.{PlanParts}
 use Rattle.cutplan.specs.declared.fault.CheckFault.{CheckFault}
 use Rattle.cutplan.specs.declared.fault.CheckFault.TheVariants.{TooWide}
-use Rattle.cutplan.specs.declared.region.Region.{Region}
-use Rattle.cutplan.specs.Regions.{table_regions}
+use Rattle.regions.specs.declared.region.Region.{Region}
+use Rattle.regions.specs.Regions.{table_regions}
 use Rattle.cutplan.specs.Check.{cells, gaps, overlaps}
 
 -- the greatest number of cells in a check

@@ -6,10 +6,10 @@ use Rattle.std.specs.List.{list_any, enumerate_from}
 use Rattle.std.specs.Option.{option_map_or}
 use Rattle.tables.specs.declared.table.Table.{Table}
 use Rattle.tables.specs.Plan.{PlanParts}
-use Rattle.cutplan.specs.declared.region.Region.{Region}
+use Rattle.regions.specs.declared.region.Region.{Region}
 use Rattle.cutplan.specs.Check.{covers}
 use Rattle.cutplan.specs.Numbered.{cell_limit, cells_of, gaps_of}
-use Rattle.cutplan.specs.Regions.{table_regions}
+use Rattle.regions.specs.Regions.{table_regions}
 
 -- the indices of the items that pass a test, where the first item has the index `first`
 abbrev pub places : {X : Type 0} → (X → Bool) → ℕ → List X → List ℕ

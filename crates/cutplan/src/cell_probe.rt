@@ -6,16 +6,16 @@
 //! literals and once between two of them, and not once for each region.
 ghost use Rattle.std.specs.Prelude.{◌≡◌, ◌≤◌, IfOk, IfSome, false, length, slice_get, true};
 ghost use Rattle.std.specs.Option.{option_map_or};
-ghost use Rattle.cutplan.specs.Regions.{holds_of, is_open};
+ghost use Rattle.regions.specs.Regions.{holds_of, is_open};
 ghost use Rattle.cutplan.specs.Masks.{Marks};
 ghost use Rattle.cutplan.specs.CheckSteps.{cell_holds, cell_holds_in, column_cells, first_value, holds_among};
 ghost use Rattle.cutplan.specs.declared.mask.TheConstants.{MASK_CAPACITY};
 
 use crate::cuts::own_cuts;
 use crate::mask::RuleMask;
-use crate::region::{Region, is_open, least_like, next};
 use crate::sorted_cuts::{find_place, is_located_at};
 use feel_tests::{Kind, Value};
+use regions::{Region, is_open, least_like, next};
 use std::alloc::{AllocError, Global};
 use std::marker::Model;
 use tables::{Rule, Sequence, Table};

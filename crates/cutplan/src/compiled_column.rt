@@ -10,8 +10,8 @@ ghost use Rattle.cutplan.specs.declared.mask.TheConstants.{MASK_CAPACITY};
 use crate::cell_probe::{CellProbe, first_value, mask_of, probes_of};
 use crate::mask::RuleMask;
 use crate::partition::Partition;
-use crate::region::Region;
 use feel_tests::Kind;
+use regions::Region;
 use std::alloc::{AllocError, Global};
 use tables::{Input, Origin, Plan, Sequence, Table};
 

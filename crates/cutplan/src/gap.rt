@@ -13,7 +13,7 @@ ghost use Rattle.cutplan.specs.declared.mask.TheConstants.{MASK_CAPACITY};
 use crate::compiled_column::CompiledColumn;
 use crate::fault::CheckFault;
 use crate::mask::RuleMask;
-use crate::region::Region;
+use regions::Region;
 use std::alloc::{AllocError, Global};
 use tables::{Sequence, Table};
 

@@ -3,8 +3,8 @@
 //! The keys only suggest a region. The suggestion is checked before it is used, so no contract
 //! mentions the keys.
 
-use crate::region::Region;
 use feel_tests::{Text, Value};
+use regions::Region;
 use std::alloc::{AllocError, Global};
 use tables::Sequence;
 

@@ -3,10 +3,10 @@
 //! match together.
 //!
 //! `compile` makes a `CutPlan`, which borrows its plan and gives the same values as the plan. The
-//! literals of a column cut its values into `Region`s. Within a region, each cell of the column
-//! holds for all values or for none, so `gaps` tests only one value of each region. `overlaps`
-//! lists the pairs of rules that share an allowed input. `check_table` finds both for one table
-//! without a compiled plan. It lists each gap by its index among all cells, which needs little
+//! literals of a column cut its values into the regions of `regions`. Within a region, each cell of
+//! the column holds for all values or for none, so `gaps` tests only one value of each region.
+//! `overlaps` lists the pairs of rules that share an allowed input. `check_table` finds both for one
+//! table without a compiled plan. It lists each gap by its index among all cells, which needs little
 //! memory.
 //!
 //! The mask of a region is the set of rules whose cell holds in it. The matching rules of a table
@@ -22,11 +22,11 @@
 //! Tables and hit policies come from `tables`, cells and values from `feel_tests`, and the list of
 //! matching rules from `smallvec`.
 //!
-//! Begin with `specs/Regions.antt`, which defines the regions of a column, and `specs/Check.antt`,
-//! which defines gaps and overlaps. `specs/Masks.antt` defines masks, `specs/Matching.antt` the
-//! search by masks, and `specs/InputClasses.antt` input classes. Then read `partition.rt`, which
-//! makes the regions of a column and of a name, `cut_plan.rt`, whose functions carry the promises,
-//! and `law.rt`.
+//! Begin with `specs/Regions.antt` of `regions`, which defines the regions of a column, and
+//! `specs/Check.antt`, which defines gaps and overlaps. `specs/Masks.antt` defines masks,
+//! `specs/Matching.antt` the search by masks, and `specs/InputClasses.antt` input classes. Then read
+//! `partition.rt`, which makes the regions of a column and of a name, `cut_plan.rt`, whose functions
+//! carry the promises, and `law.rt`.
 #![tactic(auto)]
 
 mod cell_probe;
@@ -44,8 +44,6 @@ mod mask;
 mod matching;
 mod overlap;
 mod partition;
-mod region;
-mod regions_from_cuts;
 mod rule_pairs;
 mod sorted_cuts;
 mod table_check;
@@ -64,8 +62,7 @@ pub use law::{
 };
 pub use mask::RuleMask;
 pub use partition::Partition;
-pub use region::{Region, holds_in, least_like, next};
-pub use regions_from_cuts::{has_value, regions_between};
+pub use regions::{Region, has_value, holds_in, least_like, next, regions_between};
 pub use sorted_cuts::sort_cuts;
 pub use table_check::{TableCheck, check_table};
 pub use violation_law::errors_are_faults;

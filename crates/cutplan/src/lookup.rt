@@ -6,13 +6,13 @@ ghost use Rattle.std.specs.Ordering.{nat_cmp};
 ghost use Rattle.feel_tests.specs.Holds.{is_equal};
 ghost use Rattle.feel_tests.specs.declared.value.Value.{Value};
 ghost use Rattle.feel_tests.specs.declared.value.Value.TheVariants as values;
-ghost use Rattle.cutplan.specs.declared.region.Region.TheVariants.{Other};
-ghost use Rattle.cutplan.specs.Regions.{is_in};
+ghost use Rattle.regions.specs.declared.region.Region.TheVariants.{Other};
+ghost use Rattle.regions.specs.Regions.{is_in};
 ghost use Rattle.cutplan.specs.Matching.{bytes_of, has_at, AreRisingTexts, OthersRise};
 
 use crate::keys::key_of;
-use crate::region::{Region, is_among, is_in, is_less};
 use feel_tests::{Text, Value};
+use regions::{Region, is_among, is_in, is_less};
 use std::cmp::Ordering;
 
 /// The greatest number of keys that are compared one by one.

@@ -10,14 +10,13 @@ ghost use Rattle.tables.specs.Plan.{read_kind_of};
 ghost use Rattle.cutplan.specs.CompiledColumns.{IsColumnPartition};
 ghost use Rattle.cutplan.specs.InputClasses.{IsNamePartition};
 ghost use Rattle.cutplan.specs.Matching.{IsPlaceOf, OthersRise};
-ghost use Rattle.cutplan.specs.Values.{kind_of_output, kind_read};
+ghost use Rattle.regions.specs.Values.{kind_of_output, kind_read};
 
 use crate::cuts::{cuts_of_column, cuts_of_name};
 use crate::keys::keys_of_regions;
 use crate::lookup::place_of;
-use crate::region::{Region, is_value};
-use crate::regions_from_cuts::{allowed_regions, regions_between};
 use feel_tests::{Kind, Value};
+use regions::{Region, allowed_regions, is_value, regions_between};
 use std::alloc::{AllocError, Global};
 use tables::{Input, Origin, Plan, Sequence, Table};
 

@@ -4,13 +4,13 @@ ghost use Rattle.cutplan.specs.Check.{cells, meet, overlaps, pairs};
 ghost use Rattle.cutplan.specs.CompiledColumns.{regions_kept, AreMasked};
 ghost use Rattle.cutplan.specs.Numbered.{IsTableNumber, cells_of, overlaps_of};
 ghost use Rattle.cutplan.specs.Places.{ArePlaces, is_gap, is_gap_of, regions_of};
-ghost use Rattle.cutplan.specs.Regions.{table_regions};
+ghost use Rattle.regions.specs.Regions.{table_regions};
 ghost use Rattle.cutplan.specs.declared.mask.TheConstants.{MASK_CAPACITY};
 
 use crate::compiled_column::{CompiledColumn, compiled_columns, regions_of_columns};
 use crate::gap::gap_places;
 use crate::overlap::overlaps;
-use crate::region::Region;
+use regions::Region;
 use std::alloc::{AllocError, Global};
 use tables::{Plan, Sequence, Table};
 

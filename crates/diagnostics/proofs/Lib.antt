@@ -1,2 +1,2 @@
 pub mod OneEdits
-pub mod Positions
+pub mod Counting

@@ -2,10 +2,10 @@
 
 use crate::advice::Advice;
 use crate::cause_rows::causes_of;
-use crate::cell_rows::lists_of_fixes;
+use crate::cell_rows::{DATES, DAYS, FIRST, FLAGS, LAST, LITERALS, NUMBERS, RANGES, TEXTS};
 use crate::forms::values_of;
-use crate::kind::kind_of_name;
-use crate::row::{BadCell, Scope};
+use crate::kind::{Kind, kind_of_name};
+use crate::row::{BadCell, Row, Scope};
 use crate::texts::{Explanation, cell_explanation};
 use faults::CellCause;
 use toml::Value;
@@ -33,4 +33,37 @@ pub fn cell_advice<'d>(document: &Value, cell: &BadCell<'d>) -> Advice<'d> {
         }
     }
     advice
+}
+
+// The lists of the fixes for a fault with this cause, in the order in which they are searched.
+fn lists_of_fixes(cause: CellCause, kind: Kind) -> [&'static [Row]; 4] {
+    match cause {
+        CellCause::BadDate => alone(&DATES),
+        CellCause::Literal => alone(&LITERALS),
+        CellCause::Token | CellCause::WrongKind | CellCause::Trailing => {
+            [&FIRST, rows_of_order(kind), rows_of_kind(kind), &LAST]
+        }
+        CellCause::BadEscape | CellCause::TooMany | CellCause::OutOfMemory => alone(&[]),
+    }
+}
+
+fn alone(rows: &'static [Row]) -> [&'static [Row]; 4] {
+    [rows, &[], &[], &[]]
+}
+
+// The rows for numbers and days, which have an order.
+fn rows_of_order(kind: Kind) -> &'static [Row] {
+    match kind {
+        Kind::Number | Kind::Day => &RANGES,
+        Kind::Text | Kind::Flag => &[],
+    }
+}
+
+fn rows_of_kind(kind: Kind) -> &'static [Row] {
+    match kind {
+        Kind::Number => &NUMBERS,
+        Kind::Text => &TEXTS,
+        Kind::Flag => &FLAGS,
+        Kind::Day => &DAYS,
+    }
 }

@@ -3,10 +3,8 @@
 //! A list is searched from its top, and the first form that fits has the fix. `forms.rt` says what a form is. The values of the text replace the pairs of
 //! braces of the sentence, in their order.
 
-use crate::kind::Kind;
 use crate::row::Row;
 use crate::row::Scope::{Any, Cell, Literal, Range, Rest, Whole};
-use faults::CellCause;
 
 const NOT: &str = "Put all tests of `not` in parentheses, and nothing after them: not(1,2).";
 
@@ -113,8 +111,8 @@ const QUOTED_DAY: &str = "Put the day in double quotes: date(\"{}\").";
 
 const DAY: &str = "Write a day with the word date: date(\"2024-02-29\").";
 
-// Cells and literals of any kind, before those of the kind.
-static FIRST: [Row; 28] = [
+/// Cells and literals of any kind, before those of the kind.
+pub static FIRST: [Row; 28] = [
     Row(Any, "*FU*”*", STRAIGHT),
     Row(Any, "*FU*“*", STRAIGHT),
     Row(Any, "*FU*", "Add the closing double quote of the text."),
@@ -149,8 +147,8 @@ static FIRST: [Row; 28] = [
     Row(Literal, "Fnot (*", ONE_LITERAL),
 ];
 
-// Cells of kinds with an order: numbers and days.
-static RANGES: [Row; 105] = [
+/// Cells of kinds with an order: numbers and days.
+pub static RANGES: [Row; 105] = [
     Row(Cell, "O N or O N", EITHER),
     Row(Cell, "O N | O N", EITHER),
     Row(Cell, "O N || O N", EITHER),
@@ -258,8 +256,8 @@ static RANGES: [Row; 105] = [
     Row(Cell, "O N W", NO_WORDS),
 ];
 
-// Cells and literals of numbers.
-static NUMBERS: [Row; 39] = [
+/// Cells and literals of numbers.
+pub static NUMBERS: [Row; 39] = [
     Row(
         Any,
         "*F=*",
@@ -313,8 +311,8 @@ static NUMBERS: [Row; 39] = [
     Row(Cell, "*F-*", DASH),
 ];
 
-// Cells and literals of texts.
-static TEXTS: [Row; 57] = [
+/// Cells and literals of texts.
+pub static TEXTS: [Row; 57] = [
     Row(
         Any,
         "*F=*",
@@ -386,8 +384,8 @@ static TEXTS: [Row; 57] = [
     Row(Any, "*FW*", TEXT),
 ];
 
-// Cells and literals of flags.
-static FLAGS: [Row; 8] = [
+/// Cells and literals of flags.
+pub static FLAGS: [Row; 8] = [
     Row(
         Any,
         "*F=*",
@@ -402,8 +400,8 @@ static FLAGS: [Row; 8] = [
     Row(Any, "*", FLAG),
 ];
 
-// Cells and literals of days.
-static DAYS: [Row; 14] = [
+/// Cells and literals of days.
+pub static DAYS: [Row; 14] = [
     Row(
         Any,
         "*F=*",
@@ -428,8 +426,8 @@ static DAYS: [Row; 14] = [
     Row(Any, "*", DAY),
 ];
 
-// Days that do not exist.
-static DATES: [Row; 3] = [
+/// Days that do not exist.
+pub static DATES: [Row; 3] = [
     Row(
         Any,
         "*Fdate ( \"9999-99-99t*",
@@ -447,8 +445,8 @@ static DATES: [Row; 3] = [
     ),
 ];
 
-// Numbers that are too fine or too large, and texts that are too long.
-static LITERALS: [Row; 4] = [
+/// Numbers that are too fine or too large, and texts that are too long.
+pub static LITERALS: [Row; 4] = [
     Row(Any, "*F\"*", "Shorten the text to 256 bytes."),
     Row(
         Any,
@@ -463,8 +461,8 @@ static LITERALS: [Row; 4] = [
     Row(Any, "*", "Round the number to four decimals."),
 ];
 
-// Cells and literals of any kind, after those of the kind.
-static LAST: [Row; 3] = [
+/// Cells and literals of any kind, after those of the kind.
+pub static LAST: [Row; 3] = [
     Row(Literal, "-*", ONE_LITERAL),
     Row(
         Literal,
@@ -477,18 +475,3 @@ static LAST: [Row; 3] = [
         "Write `-` for any value, or tests that are separated by commas, such as 5, <10 or [1..3], or not(..) of such tests.",
     ),
 ];
-
-/// The lists of the fixes for a fault with this cause, in the order in which they are searched.
-pub fn lists_of_fixes(cause: CellCause, kind: Kind) -> [&'static [Row]; 4] {
-    match cause {
-        CellCause::BadDate => [&DATES, &[], &[], &[]],
-        CellCause::Literal => [&LITERALS, &[], &[], &[]],
-        CellCause::Token | CellCause::WrongKind | CellCause::Trailing => match kind {
-            Kind::Number => [&FIRST, &RANGES, &NUMBERS, &LAST],
-            Kind::Text => [&FIRST, &[], &TEXTS, &LAST],
-            Kind::Flag => [&FIRST, &[], &FLAGS, &LAST],
-            Kind::Day => [&FIRST, &RANGES, &DAYS, &LAST],
-        },
-        CellCause::BadEscape | CellCause::TooMany | CellCause::OutOfMemory => [&[], &[], &[], &[]],
-    }
-}

@@ -69,7 +69,7 @@ pub fn explain_unusable_file(
 
 impl Message {
     /// A message without lines.
-    pub(crate) fn new(alloc: Global) -> Message {
+    pub fn new(alloc: Global) -> Message {
         Message {
             alloc,
             text: String::new(alloc),
@@ -82,7 +82,7 @@ impl Message {
     }
 
     /// The message, or the error of the steps that added its lines. With it, those that own a message have one way out.
-    pub(crate) fn after(self, done: Result<(), AllocError>) -> Result<Message, AllocError> {
+    pub fn after(self, done: Result<(), AllocError>) -> Result<Message, AllocError> {
         match done {
             Ok(()) => Ok(self),
             Err(fault) => Err(fault),
@@ -90,11 +90,7 @@ impl Message {
     }
 
     /// Adds a line, indented by two spaces: the sentence, with the values in place of its pairs of braces.
-    pub(crate) fn sentence(
-        &mut self,
-        sentence: &str,
-        values: &[Part<'_>],
-    ) -> Result<(), AllocError> {
+    pub fn sentence(&mut self, sentence: &str, values: &[Part<'_>]) -> Result<(), AllocError> {
         self.add("  ", &[])?;
         self.add(sentence, values)?;
         self.add("\n", &[])
@@ -111,12 +107,12 @@ impl Message {
     }
 
     /// Adds the cause and the fix.
-    pub(crate) fn words(&mut self, words: Explanation) -> Result<(), AllocError> {
+    pub fn words(&mut self, words: Explanation) -> Result<(), AllocError> {
         self.advice(&Advice::of(words))
     }
 
     /// Adds the cause and the fix with their values.
-    pub(crate) fn advice(&mut self, advice: &Advice<'_>) -> Result<(), AllocError> {
+    pub fn advice(&mut self, advice: &Advice<'_>) -> Result<(), AllocError> {
         self.add("  Cause: ", &[])?;
         self.add(advice.words.cause, &advice.values)?;
         self.add("\n  Fix: ", &[])?;
@@ -125,7 +121,7 @@ impl Message {
     }
 
     /// Appends a part of a line, with the values in place of its pairs of braces. Values without a pair are left out.
-    pub(crate) fn add(&mut self, sentence: &str, values: &[Part<'_>]) -> Result<(), AllocError> {
+    pub fn add(&mut self, sentence: &str, values: &[Part<'_>]) -> Result<(), AllocError> {
         let mut rest = sentence;
         for value in values {
             if let Some((front, back)) = rest.split_once("{}") {
@@ -149,7 +145,7 @@ impl Message {
     }
 
     /// Adds the line and the column of a byte of a file.
-    pub(crate) fn place(&mut self, name: &str, text: &[u8], at: usize) -> Result<(), AllocError> {
+    pub fn place(&mut self, name: &str, text: &[u8], at: usize) -> Result<(), AllocError> {
         let position = position_of(text, at);
         let values = [
             Part::Word(name),
@@ -160,12 +156,7 @@ impl Message {
     }
 
     /// Adds the place in a plan's text of the value at the end of the steps; if that does not exist, of the last one that does.
-    pub(crate) fn place_of(
-        &mut self,
-        name: &str,
-        text: &[u8],
-        steps: &[Step],
-    ) -> Result<(), AllocError> {
+    pub fn place_of(&mut self, name: &str, text: &[u8], steps: &[Step]) -> Result<(), AllocError> {
         let Ok(words) = str::from_utf8(text) else {
             return Ok(());
         };
@@ -174,7 +165,7 @@ impl Message {
     }
 
     /// Adds the line of a text that has this byte, and a mark below the byte.
-    pub(crate) fn mark(&mut self, text: &str, at: usize) -> Result<(), AllocError> {
+    pub fn mark(&mut self, text: &str, at: usize) -> Result<(), AllocError> {
         let mut begin = 0usize;
         for line in text.split('\n') {
             let end = begin.saturating_add(line.len());

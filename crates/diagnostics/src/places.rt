@@ -12,7 +12,7 @@ pub enum Step {
 
 /// A key with its value, or an item of an array.
 #[derive(Drop)]
-pub(crate) struct Node {
+pub struct Node {
     /// The number of the table or array that contains it, which is less than its own.
     pub parent: usize,
     /// None for an item.
@@ -39,7 +39,7 @@ pub struct Places {
 }
 
 impl Places {
-    pub(crate) fn new(alloc: Global) -> Result<Places, AllocError> {
+    pub fn new(alloc: Global) -> Result<Places, AllocError> {
         let mut places = Places {
             alloc,
             nodes: Vec::new(alloc),
@@ -48,7 +48,8 @@ impl Places {
         Ok(places)
     }
 
-    pub(crate) fn nodes(&self) -> &[Node] {
+    /// All nodes, in the order of their numbers.
+    pub fn nodes(&self) -> &[Node] {
         self.nodes.as_slice()
     }
 
@@ -87,7 +88,7 @@ impl Places {
     }
 
     // Adds a key, or an item if there is no key, and returns its number.
-    pub(crate) fn push(
+    pub fn push(
         &mut self,
         parent: usize,
         key: Option<String>,
@@ -133,7 +134,7 @@ impl Places {
     }
 
     // The table at a part of a dotted key. TOML: if that part is an array of tables, its last item is meant; if it does not exist, the key defines it.
-    pub(crate) fn table_under(
+    pub fn table_under(
         &mut self,
         parent: usize,
         key: &str,
@@ -156,7 +157,7 @@ impl Places {
     }
 
     // The table of a header; for one in double brackets a new item of its array, which the first such header defines.
-    pub(crate) fn section(
+    pub fn section(
         &mut self,
         parent: usize,
         key: String,

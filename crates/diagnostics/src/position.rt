@@ -35,7 +35,7 @@ fn position_after(text: &[u8]) -> Position
 
 /// Finds the places of bytes in ascending order, so that it reads each byte of the text once.
 #[derive(Drop)]
-pub(crate) struct Positions<'t> {
+pub struct Positions<'t> {
     rest: &'t [u8],
     /// The offset of the rest; `known` is its place.
     at: usize,
@@ -43,6 +43,7 @@ pub(crate) struct Positions<'t> {
 }
 
 impl<'t> Positions<'t> {
+    /// Begins at the first byte of the text.
     pub fn new(text: &'t [u8]) -> Positions<'t> {
         Positions {
             rest: text,
@@ -51,7 +52,7 @@ impl<'t> Positions<'t> {
         }
     }
 
-    // The offset must not be less than the last one.
+    /// The place of the byte at this offset, which must not be less than the last one.
     pub fn next(&mut self, at: usize) -> Position {
         let between = at.saturating_sub(self.at).min(self.rest.len());
         self.known = self.known.and_then(position_of(self.rest, between));

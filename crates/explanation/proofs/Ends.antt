@@ -29,10 +29,10 @@ use Rattle.journal.proofs.Fronts.{slice_get_at}
 use Rattle.journal.proofs.Grown.{slice_get-append}
 use Rattle.journal.proofs.InOrder.{places_counted}
 use Rattle.claim_gate.specs.Terms.{AreBalancesOf, AreClaimsOf, IsTermsOf, TermsParts}
-use Rattle.remit.specs.Decided.{decided_as, decision_at, position_from}
-use Rattle.remit.specs.FieldTexts.{fault_text}
-use Rattle.remit.specs.Records.{Deciding, header_fields, id_column_fields, record_of, records_of, reported_of, reported_refused, status_fields, total_fields, whose_fields}
-use Rattle.remit.specs.Report.{IsReport, report_records, reported_by_journal, text_of}
+use Rattle.remit_records.specs.Decided.{decided_as, decision_at, position_from}
+use Rattle.remit_records.specs.FieldTexts.{fault_text}
+use Rattle.remit_records.specs.Records.{Deciding, header_fields, id_column_fields, record_of, records_of, reported_of, reported_refused, status_fields, total_fields, whose_fields}
+use Rattle.remit_records.specs.Report.{IsReport, report_records, reported_by_journal, text_of}
 use Rattle.orders.specs.Order.{before_by, claims_by, settled_by}
 use Rattle.orders.proofs.Openings.{openings-one}
 use Rattle.orders.proofs.Outcomes.{decided_so}

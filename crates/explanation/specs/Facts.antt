@@ -5,7 +5,7 @@ use Rattle.feel_tests.specs.Value.{literal_text}
 use Rattle.feel_tests.specs.declared.value.Value.{Value}
 use Rattle.evaluation.specs.ValueText.{line_end}
 use Rattle.faults.specs.Printable.{shown_text}
-use Rattle.remit.specs.Report.{record_text}
+use Rattle.remit_records.specs.Report.{record_text}
 use Rattle.explanation.specs.declared.format.Format.{Format}
 use Rattle.explanation.specs.declared.format.Format.TheVariants.{Text, Csv}
 

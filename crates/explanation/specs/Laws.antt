@@ -2,7 +2,7 @@
 use Rattle.std.specs.Prelude.{◌≡◌, ◌≢◌, ℕ, List, ◌∷◌, ◌++◌, decimal, Some}
 use Rattle.journal.specs.declared.order.Order.{Order}
 use Rattle.journal.specs.declared.order.Order.TheVariants.{Any}
-use Rattle.remit.specs.Report.{text_of}
+use Rattle.remit_records.specs.Report.{text_of}
 use Rattle.orders.specs.RunTexts.{IsOrderedRemittance, RunTexts}
 use Rattle.explanation.specs.Explained.{HasNoRecord, IsExplanation, IsFoundIn}
 use Rattle.explanation.specs.Facts.{FactParts, facts_text}

@@ -22,9 +22,9 @@ use Rattle.settlement.specs.Accumulators.{after}
 use Rattle.settlement.specs.Bindings.{given_by}
 use Rattle.settlement.specs.Roles.{units_where, value_of}
 use Rattle.settlement.specs.Settlement.{outcome, remaining}
-use Rattle.remit.specs.FieldTexts.{fault_text}
-use Rattle.remit.specs.Records.{id_column_fields, line_of, reported_of, reported_refused, whose_fields}
-use Rattle.remit.specs.Report.{record_text}
+use Rattle.remit_records.specs.FieldTexts.{fault_text}
+use Rattle.remit_records.specs.Records.{id_column_fields, line_of, reported_of, reported_refused, whose_fields}
+use Rattle.remit_records.specs.Report.{record_text}
 use Rattle.explanation.specs.declared.family.Standing.{Standing}
 use Rattle.explanation.specs.declared.row.Place.{Place}
 use Rattle.explanation.specs.Facts.{FactParts, fact, value_facts}

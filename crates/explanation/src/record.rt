@@ -1,14 +1,14 @@
 //! The record of the remittance.
 ghost use Rattle.std.specs.Prelude.{◌≡◌, List, ℕ, [], ◌∷◌, IfOk, OnOk, option_map};
-ghost use Rattle.remit.specs.Fields.{HasFields, Pushes};
-ghost use Rattle.remit.specs.Records.{id_column_fields};
-ghost use Rattle.remit.specs.Report.{record_text, report_style};
+ghost use Rattle.remit_records.specs.Fields.{HasFields, Pushes};
+ghost use Rattle.remit_records.specs.Records.{id_column_fields};
+ghost use Rattle.remit_records.specs.Report.{record_text, report_style};
 ghost use Rattle.explanation.specs.Steps.{claim_record, refused_record};
 
 use csv::Writer;
 use feel_tests::{day_year, year_text};
 use intake_csv::RowFault;
-use remit::{
+use remit_records::{
     end_record, push_claim, push_field, push_number, push_refused, push_whose, writer_into,
 };
 use settlement::{Claim, Outcome};

@@ -14,7 +14,7 @@ use crate::shown_field::{escaped_bytes, first_characters};
 use claim_gate::Terms;
 use csv::ByteRecord;
 use intake_csv::{RowCause, RowFault};
-use remit::fault_text;
+use remit_records::fault_text;
 use std::alloc::{AllocError, Global};
 
 const RECORD: &[u8] = b"this record";

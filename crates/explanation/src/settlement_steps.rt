@@ -11,7 +11,7 @@ ghost use Rattle.explanation.specs.Steps.{accumulator_facts, amount_facts, befor
 use crate::fact::Facts;
 use crate::row::Place;
 use feel_tests::Value;
-use remit::reason_text;
+use remit_records::reason_text;
 use settlement::{Acc, Claim, Money, Outcome, Verdict};
 use std::alloc::{AllocError, Global};
 use tables::{Answer, Env, FamilyRoles, Inputs, Roles, Source};

@@ -10,7 +10,7 @@ use crate::matching::matching;
 use faults::Reason;
 use feel_tests::{Literals, Sequence, Value, append_joined};
 use itoa::Buffer;
-use remit::reason_text;
+use remit_records::reason_text;
 use std::alloc::{AllocError, Global};
 use tables::{
     Answer, Answers, AnswersByTable, Fault, Hit, Input, Inputs, Output, Table, in_priority_order,

@@ -17,10 +17,10 @@ use Rattle.journal.specs.Laws.{FinishedTakesAll}
 use Rattle.claim_gate.specs.Terms.{AreClaimsOf, AreTermsOf, TermsParts}
 use Rattle.feel_tests.specs.Plain.{SpellsOnePlain}
 use Rattle.orders.proofs.Openings.{openings-one}
-use Rattle.remit.specs.Amounts.{amounts, amount_of}
-use Rattle.remit.specs.Decided.{position_from}
-use Rattle.remit.specs.Records.{header_fields, records_of, total_front}
-use Rattle.remit.specs.Report.{text_of}
+use Rattle.remit_records.specs.Amounts.{amounts, amount_of}
+use Rattle.remit_records.specs.Decided.{position_from}
+use Rattle.remit_records.specs.Records.{header_fields, records_of, total_front}
+use Rattle.remit_records.specs.Report.{text_of}
 use Rattle.journal.specs.InOrder.{AreFirstInOrder, OrderIsOne}
 use Rattle.journal.specs.declared.order.Order.{Order}
 use Rattle.journal.specs.declared.order.Order.TheVariants.{Any}

@@ -6,8 +6,8 @@ use Rattle.journal.specs.Terms.{Terms}
 use Rattle.journal.specs.Events.{accepted_count, accepts}
 use Rattle.journal.specs.Lawful.{Finished}
 use Rattle.journal.specs.declared.event.Event.{Event}
-use Rattle.remit.specs.Decided.{decision_at, paid_outcomes, sum_of}
-use Rattle.remit.specs.Report.{report_records}
+use Rattle.remit_records.specs.Decided.{decision_at, paid_outcomes, sum_of}
+use Rattle.remit_records.specs.Report.{report_records}
 use Rattle.journal.specs.InOrder.{AreFirstInOrder}
 use Rattle.journal.specs.declared.order.Order.{Order}
 use Rattle.journal.specs.declared.order.Order.TheVariants.{Any}

@@ -11,10 +11,10 @@ use Rattle.intake_csv.specs.declared.rows.Row.{Row}
 use Rattle.journal.specs.Terms.{Terms}
 use Rattle.journal.specs.Settled.{outcome_of}
 use Rattle.journal.specs.Events.{Book, Filed, claim_filed, noted}
-use Rattle.remit.specs.declared.amount.Amount.{Amount}
-use Rattle.remit.specs.Amounts.{amounts, amount_of}
-use Rattle.remit.specs.Decided.{paid_by, position_from, sum_of}
-use Rattle.remit.specs.Records.{header_fields, records_of, total_front}
+use Rattle.remit_records.specs.declared.amount.Amount.{Amount}
+use Rattle.remit_records.specs.Amounts.{amounts, amount_of}
+use Rattle.remit_records.specs.Decided.{paid_by, position_from, sum_of}
+use Rattle.remit_records.specs.Records.{header_fields, records_of, total_front}
 
 -- the claims that are accepted in this order, by position
 abbrev pub claims_by : Terms → List Filed → List (Option Claim)

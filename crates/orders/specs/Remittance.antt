@@ -9,7 +9,7 @@ use Rattle.journal.specs.Events.{accepts}
 use Rattle.journal.specs.Lawful.{Finished}
 use Rattle.journal.specs.declared.event.Event.{Event}
 use Rattle.claim_gate.specs.Terms.{AreTermsOf, IsTermsOf, TermsParts}
-use Rattle.remit.specs.Report.{IsReport}
+use Rattle.remit_records.specs.Report.{IsReport}
 use Rattle.journal.specs.InOrder.{AreFirstInOrder}
 use Rattle.journal.specs.declared.order.Order.{Order}
 use Rattle.journal.specs.declared.order.Order.TheVariants.{Any}

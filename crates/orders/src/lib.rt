@@ -3,7 +3,7 @@
 //!
 //! `laws` says what an order determines: each outcome, each total, and the remittance. `stop` has
 //! the errors of all commands, each with its line and its exit status. The crate adds to `journal`
-//! and `remit` definitions and laws, without threads or state.
+//! and `remit_records` definitions and laws, without threads or state.
 //!
 //! Begin with `specs/Order.antt`, `specs/Remittance.antt` and `specs/RunTexts.antt`, which define
 //! the remittance of terms and of texts in an order; then read `laws.rt` and `specs/Stop.antt`.

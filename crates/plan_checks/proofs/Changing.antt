@@ -4,19 +4,19 @@ use Rattle.std.specs.List.{AllByRecursion, slice_get}
 use Rattle.feel_tests.specs.declared.value.Value.{Value}
 use Rattle.tables.specs.Plan.{PlanParts, IsPlan}
 use Rattle.settlement.specs.declared.determination.Determination.{Determination}
-use Rattle.cutplan.specs.declared.region.Region.{Region}
-use Rattle.plan_checks.specs.declared.benefit.Benefit.{Benefit}
-use Rattle.plan_checks.specs.declared.change.Change.{Change}
-use Rattle.plan_checks.specs.declared.joint.JointNames.{JointNames}
-use Rattle.plan_checks.specs.declared.zone_box.ZoneBox.{ZoneBox}
-use Rattle.plan_checks.specs.Boxes.{AreBoxesOf, IsInside, IsListed, LieInBox, OneOf}
-use Rattle.plan_checks.specs.Changes.{HaveChanges, ChangesIn, DifferExactlyIn, HasChange, HoldJointValues, IsPart, first_of_two_kinds, looked_at, says, says_by}
-use Rattle.plan_checks.specs.Determined.{role_fault}
-use Rattle.plan_checks.specs.Joint.{AreJointPossible, ArePlaced, TwoPlans, by_places, joint_regions, place_of_new, place_of_old}
-use Rattle.plan_checks.specs.Zones.{IsZone, LieIn}
+use Rattle.regions.specs.declared.region.Region.{Region}
+use Rattle.plan_zones.specs.declared.benefit.Benefit.{Benefit}
+use Rattle.plan_zones.specs.declared.change.Change.{Change}
+use Rattle.plan_zones.specs.declared.joint.JointNames.{JointNames}
+use Rattle.plan_zones.specs.declared.zone_box.ZoneBox.{ZoneBox}
+use Rattle.plan_zones.specs.Boxes.{AreBoxesOf, IsInside, IsListed, LieInBox, OneOf}
+use Rattle.plan_zones.specs.Changes.{HaveChanges, ChangesIn, DifferExactlyIn, HasChange, HoldJointValues, IsPart, first_of_two_kinds, looked_at, says, says_by}
+use Rattle.plan_zones.specs.Determined.{role_fault}
+use Rattle.plan_zones.specs.Joint.{AreJointPossible, ArePlaced, TwoPlans, by_places, joint_regions, place_of_new, place_of_old}
+use Rattle.plan_zones.specs.Zones.{IsZone, LieIn}
 use Rattle.plan_checks.proofs.JointValues.{joint_covered, joint_values_in}
 use Rattle.plan_checks.proofs.Listing.{zones_held}
-use Rattle.plan_checks.proofs.Lists.{get_there, one_map}
+use Rattle.plan_zones.proofs.Lists.{get_there, one_map}
 use Rattle.plan_checks.proofs.Placing.{projects_new, projects_old}
 use Rattle.plan_checks.proofs.Projecting.{determined_in}
 

@@ -11,19 +11,19 @@ use Rattle.tables.specs.declared.roles.Roles.{Roles}
 use Rattle.tables.specs.declared.table.Table.{Table}
 use Rattle.tables.specs.Inputs.{needs}
 use Rattle.tables.specs.Plan.{PlanParts, IsPlan}
-use Rattle.cutplan.specs.declared.region.Region.{Region}
+use Rattle.regions.specs.declared.region.Region.{Region}
 use Rattle.cutplan.specs.ClassWise.{answers_in}
 use Rattle.cutplan.specs.InputClasses.{name_literals}
-use Rattle.plan_checks.specs.declared.fault.WholeFault.{WholeFault}
-use Rattle.plan_checks.specs.declared.fault.WholeFault.TheVariants.{TooWide, NoRoles, InputRole, OutOfMemory}
+use Rattle.plan_zones.specs.declared.fault.WholeFault.{WholeFault}
+use Rattle.plan_zones.specs.declared.fault.WholeFault.TheVariants.{TooWide, NoRoles, InputRole, OutOfMemory}
 use Rattle.plan_checks.specs.declared.pending.PendingZones.{PendingZones}
-use Rattle.plan_checks.specs.declared.zone_box.ZoneBox.{ZoneBox}
-use Rattle.plan_checks.specs.Boxes.{AreBoxesOf}
+use Rattle.plan_zones.specs.declared.zone_box.ZoneBox.{ZoneBox}
+use Rattle.plan_zones.specs.Boxes.{AreBoxesOf}
 use Rattle.plan_checks.specs.Dead.{IsTooWide}
-use Rattle.plan_checks.specs.Determined.{input_role}
+use Rattle.plan_zones.specs.Determined.{input_role}
 use Rattle.plan_checks.specs.Pending.{HoldValues, IsRefusal, PendExactlyIn}
 use Rattle.plan_checks.specs.TableFaults.{FailExactlyIn, FailsBy, HaveFaultsExactlyIn, IsUnlisted, fault_reason, fault_reason_in}
-use Rattle.plan_checks.specs.Zones.{class_of, plan_regions}
+use Rattle.plan_zones.specs.Zones.{class_of, plan_regions}
 use Rattle.plan_checks.proofs.Listing.{boxed, unboxed, values_of_boxes}
 use Rattle.plan_checks.proofs.Regions.{covered}
 use Rattle.plan_checks.proofs.Values.{zone_is_valued}

@@ -12,12 +12,12 @@ use Rattle.feel_tests.specs.declared.kind.Kind.{Kind}
 use Rattle.feel_tests.specs.declared.kind.Kind.TheVariants as kinds
 use Rattle.feel_tests.specs.declared.value.Value.{Value}
 use Rattle.tables.specs.Plan.{has_kind, same_kind}
-use Rattle.cutplan.specs.declared.region.Region.{Region}
-use Rattle.cutplan.specs.declared.region.Region.TheVariants.{Every}
+use Rattle.regions.specs.declared.region.Region.{Region}
+use Rattle.regions.specs.declared.region.Region.TheVariants.{Every}
 use Rattle.cutplan.specs.InputClasses.{name_literals}
 use Rattle.cutplan.specs.Matching.{has_at}
-use Rattle.cutplan.specs.Regions.{holds_in, is_in, literals}
-use Rattle.cutplan.specs.Values.{is_value, sort_values}
+use Rattle.regions.specs.Regions.{holds_in, is_in, literals}
+use Rattle.regions.specs.Values.{is_value, sort_values}
 use Rattle.cutplan.proofs.Alike.{Among, among_left, among_right}
 use Rattle.cutplan.proofs.ByMasks.{lies_at}
 use Rattle.cutplan.proofs.ColumnWise.{among_unfilter, value_kind}
@@ -26,12 +26,12 @@ use Rattle.cutplan.proofs.MaskRules.{among_got}
 use Rattle.cutplan.proofs.OpenRegions.{located}
 use Rattle.cutplan.proofs.Overlapping.{among_kept}
 use Rattle.cutplan.proofs.Parting.{stretch_count}
-use Rattle.plan_checks.specs.declared.joint.JointName.{JointName}
-use Rattle.plan_checks.specs.declared.joint_regions.Narrowing.{Narrowing}
-use Rattle.plan_checks.specs.Amounts.{is_amount_name, is_money_value, is_possible_region}
-use Rattle.plan_checks.specs.Joint.{AreJointPossible, TwoPlans, is_joint_possible, is_joint_read, is_joint_region, is_narrowed, is_needed, joint_kind, joint_literals, joint_regions, meets, meets_in, name_text, narrowing_literals, regions_of, regions_of_kind}
-use Rattle.plan_checks.specs.Zones.{IsZone, LieIn, region_at}
-use Rattle.plan_checks.proofs.Lists.{get_there}
+use Rattle.plan_zones.specs.declared.joint.JointName.{JointName}
+use Rattle.plan_zones.specs.declared.joint_regions.Narrowing.{Narrowing}
+use Rattle.plan_zones.specs.Amounts.{is_amount_name, is_money_value, is_possible_region}
+use Rattle.plan_zones.specs.Joint.{AreJointPossible, TwoPlans, is_joint_possible, is_joint_read, is_joint_region, is_narrowed, is_needed, joint_kind, joint_literals, joint_regions, meets, meets_in, name_text, narrowing_literals, regions_of, regions_of_kind}
+use Rattle.plan_zones.specs.Zones.{IsZone, LieIn, region_at}
+use Rattle.plan_zones.proofs.Lists.{get_there}
 use Rattle.plan_checks.proofs.Regions.{Indexed, Zoned, any_value, chosen, counted_one, indexed, possible_region}
 
 -- a name is narrowed in no region and at no value if no cell narrows it

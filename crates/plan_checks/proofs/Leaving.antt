@@ -1,11 +1,11 @@
 -- What is left of a list of parts after walks over zones.
 use Rattle.std.proofs.Common.{◌≡◌, ◌⊎◌, ℕ, ◌+◌, ◌++◌, ◌&&◌, inl, inr, Bool, true, false, not, cond, List, [], ◌∷◌, length, filter, Contains, refl, ap, sym, ◌∙◌, subst, append-nil, append_assoc, arith}
 use Rattle.std.proofs.lemmas.Bool.{and_from, and_parts, both_ways, cases_lt}
-use Rattle.cutplan.specs.declared.region.Region.{Region}
+use Rattle.regions.specs.declared.region.Region.{Region}
 use Rattle.cutplan.proofs.ColumnWise.{among_contained}
 use Rattle.cutplan.proofs.Overlapping.{among_kept, contained_among}
 use Rattle.plan_checks.specs.Leaving.{Begins, BeginsBelow, IsLeft}
-use Rattle.plan_checks.specs.Zones.{IsZone}
+use Rattle.plan_zones.specs.Zones.{IsZone}
 
 -- a list that is filtered twice
 filtered_twice : {X : Type 0} (p q : X → Bool) (xs : List X) → filter q (filter p xs) ≡ filter (λ x. p x && q x) xs

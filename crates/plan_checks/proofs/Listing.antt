@@ -30,16 +30,16 @@ use Rattle.settlement.specs.Roles.{is_true_flag, remarks_of, terms, value_of}
 use Rattle.faults.specs.declared.role.Role.{Role}
 use Rattle.faults.specs.declared.reason.Reason.TheVariants.{Term}
 use Rattle.settlement.proofs.ReadAlike.{tables_alike}
-use Rattle.cutplan.specs.declared.region.Region.{Region}
+use Rattle.regions.specs.declared.region.Region.{Region}
 use Rattle.cutplan.specs.InputClasses.{name_literals}
-use Rattle.plan_checks.specs.declared.fault.WholeFault.{WholeFault}
-use Rattle.plan_checks.specs.declared.fault.WholeFault.TheVariants.{TooWide, NoRoles, InputRole, OutOfMemory}
-use Rattle.plan_checks.specs.declared.zone_box.ZoneBox.{ZoneBox}
-use Rattle.plan_checks.specs.Boxes.{AreBoxesOf, IsInside, IsListed, LieInBox, OneOf}
-use Rattle.plan_checks.specs.Determined.{determination_at, determination_in, environment_by, family_input_role, if_input, input_role, reason_for, reason_in, role_fault}
+use Rattle.plan_zones.specs.declared.fault.WholeFault.{WholeFault}
+use Rattle.plan_zones.specs.declared.fault.WholeFault.TheVariants.{TooWide, NoRoles, InputRole, OutOfMemory}
+use Rattle.plan_zones.specs.declared.zone_box.ZoneBox.{ZoneBox}
+use Rattle.plan_zones.specs.Boxes.{AreBoxesOf, IsInside, IsListed, LieInBox, OneOf}
+use Rattle.plan_zones.specs.Determined.{determination_at, determination_in, environment_by, family_input_role, if_input, input_role, reason_for, reason_in, role_fault}
 use Rattle.plan_checks.specs.Pending.{HoldValues, IsRefusal, PendExactlyIn}
-use Rattle.plan_checks.specs.Zones.{ArePossible, IsZone, LieIn, plan_regions, value_in}
-use Rattle.plan_checks.proofs.Lists.{get_there, one_map}
+use Rattle.plan_zones.specs.Zones.{ArePossible, IsZone, LieIn, plan_regions, value_in}
+use Rattle.plan_zones.proofs.Lists.{get_there, one_map}
 use Rattle.plan_checks.proofs.Regions.{covered, values_in}
 use Rattle.plan_checks.proofs.Values.{zone_is_valued}
 

@@ -10,14 +10,14 @@ use Rattle.feel_tests.specs.Value.{kind_of}
 use Rattle.feel_tests.specs.declared.kind.Kind.TheVariants as kinds
 use Rattle.feel_tests.specs.declared.value.Value.{Value}
 use Rattle.feel_tests.specs.declared.value.Value.TheVariants.{Number, Text, Flag, Day}
-use Rattle.cutplan.specs.declared.region.Region.{Region}
-use Rattle.cutplan.specs.declared.region.Region.TheVariants.{Below, At, Between, Above, Other, Every}
-use Rattle.cutplan.specs.Regions.{from_cut, has_value, is_in, regions_of_order}
-use Rattle.cutplan.specs.Values.{is_value}
+use Rattle.regions.specs.declared.region.Region.{Region}
+use Rattle.regions.specs.declared.region.Region.TheVariants.{Below, At, Between, Above, Other, Every}
+use Rattle.regions.specs.Regions.{from_cut, has_value, is_in, regions_of_order}
+use Rattle.regions.specs.Values.{is_value}
 use Rattle.cutplan.proofs.Alike.{Among}
 use Rattle.cutplan.proofs.CutLists.{equal_itself, equal_same}
-use Rattle.cutplan.proofs.Integers.{lt_true, lt_from, le_true, le_so}
-use Rattle.plan_checks.specs.Amounts.{has_money, has_money_above, is_below, is_money_value, money_above}
+use Rattle.regions.proofs.Integers.{lt_true, lt_from, le_true, le_so}
+use Rattle.plan_zones.specs.Amounts.{has_money, has_money_above, is_below, is_money_value, money_above}
 
 -- money above a number is at least the least amount above it
 least_above : (low : ℤ) (m : ℕ) → m % 100 ≡ 0 → low <ℤ pos m → money_above low ≤ℤ pos m

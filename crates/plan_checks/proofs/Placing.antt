@@ -11,10 +11,10 @@ use Rattle.tables.specs.Inputs.{needs}
 use Rattle.tables.specs.Plan.{same_kind}
 use Rattle.cutplan.specs.InputClasses.{name_kind, name_literals}
 use Rattle.cutplan.proofs.Alike.{Among, among_left, among_right}
-use Rattle.plan_checks.specs.declared.joint.JointName.{JointName}
-use Rattle.plan_checks.specs.Joint.{ArePlaced, TwoPlans, has_one_kind, is_at, is_narrowed, name_text, narrowing_literals, place_of_new, place_of_old}
-use Rattle.plan_checks.specs.Changes.{first_of_two_kinds}
-use Rattle.plan_checks.proofs.JointLists.{first_or, rest_of}
+use Rattle.plan_zones.specs.declared.joint.JointName.{JointName}
+use Rattle.plan_zones.specs.Joint.{ArePlaced, TwoPlans, has_one_kind, is_at, is_narrowed, name_text, narrowing_literals, place_of_new, place_of_old}
+use Rattle.plan_zones.specs.Changes.{first_of_two_kinds}
+use Rattle.plan_zones.proofs.JointLists.{first_or, rest_of}
 use Rattle.plan_checks.proofs.Projecting.{Projects, Standing}
 
 -- what is found passes the test

@@ -11,25 +11,25 @@ use Rattle.tables.specs.Inputs.{needs}
 use Rattle.tables.specs.Plan.{PlanParts, IsPlan}
 use Rattle.tables.proofs.NeededNames.{within_names}
 use Rattle.settlement.specs.Bindings.{slot_of}
-use Rattle.cutplan.specs.declared.region.Region.{Region}
-use Rattle.cutplan.specs.declared.region.Region.TheVariants.{Every}
+use Rattle.regions.specs.declared.region.Region.{Region}
+use Rattle.regions.specs.declared.region.Region.TheVariants.{Every}
 use Rattle.cutplan.specs.ClassWise.{Covers, LiesInClass, regions_by}
 use Rattle.cutplan.specs.InputClasses.{name_kind, name_literals}
-use Rattle.cutplan.specs.Regions.{is_in}
-use Rattle.cutplan.specs.Values.{is_value}
+use Rattle.regions.specs.Regions.{is_in}
+use Rattle.regions.specs.Values.{is_value}
 use Rattle.cutplan.proofs.Alike.{Among}
 use Rattle.cutplan.proofs.ClassWise.{classes_are_valued}
 use Rattle.cutplan.proofs.ColumnWise.{among_contained}
 use Rattle.cutplan.proofs.MaskRules.{among_got}
 use Rattle.cutplan.proofs.Overlapping.{contained_among}
-use Rattle.plan_checks.specs.declared.joint.JointName.{JointName}
-use Rattle.plan_checks.specs.Amounts.{is_money_value}
-use Rattle.plan_checks.specs.Determined.{determination_at, determination_in, role_fault}
-use Rattle.plan_checks.specs.Joint.{AreJointPossible, TwoPlans, by_places, is_joint_amount, is_joint_read, joint_kind, joint_literals, joint_regions, meets, name_text, regions_of_kind}
-use Rattle.plan_checks.specs.Zones.{LieIn, class_of, region_at}
+use Rattle.plan_zones.specs.declared.joint.JointName.{JointName}
+use Rattle.plan_zones.specs.Amounts.{is_money_value}
+use Rattle.plan_zones.specs.Determined.{determination_at, determination_in, role_fault}
+use Rattle.plan_zones.specs.Joint.{AreJointPossible, TwoPlans, by_places, is_joint_amount, is_joint_read, joint_kind, joint_literals, joint_regions, meets, name_text, regions_of_kind}
+use Rattle.plan_zones.specs.Zones.{LieIn, class_of, region_at}
 use Rattle.plan_checks.proofs.JointValues.{joint_found_at, of_joint_name}
 use Rattle.plan_checks.proofs.Listing.{determined_by}
-use Rattle.plan_checks.proofs.Lists.{get_there}
+use Rattle.plan_zones.proofs.Lists.{get_there}
 use Rattle.plan_checks.proofs.Values.{slot_at}
 
 -- the item at a place of the items at these places

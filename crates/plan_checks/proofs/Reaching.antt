@@ -13,10 +13,10 @@ use Rattle.tables.specs.declared.table.Table.{Table}
 use Rattle.tables.specs.Environment.{and_then}
 use Rattle.tables.specs.HitPolicy.{TableValue}
 use Rattle.cutplan.specs.ClassWise.{Zone, answers_in, cell_holds_in, first_outside_in, matching_in, table_value_in}
-use Rattle.plan_checks.specs.declared.rule_place.TestPlace.{TestPlace}
-use Rattle.plan_checks.specs.Giving.{giving}
-use Rattle.plan_checks.specs.RulePlaces.{test_at}
-use Rattle.plan_checks.specs.Runs.{answered_in, giving_in, meets_after, meets_by, meets_in, until_fault}
+use Rattle.plan_zones.specs.declared.rule_place.TestPlace.{TestPlace}
+use Rattle.plan_zones.specs.Giving.{giving}
+use Rattle.plan_zones.specs.RulePlaces.{test_at}
+use Rattle.plan_zones.specs.Runs.{answered_in, giving_in, meets_after, meets_by, meets_in, until_fault}
 
 module _ (input_class : Zone) where
   -- where the tables before an index have answers, they are the first of those before the first fault

@@ -9,13 +9,13 @@ use Rattle.feel_tests.specs.declared.kind.Kind.TheVariants as kinds
 use Rattle.feel_tests.specs.declared.value.Value.{Value}
 use Rattle.feel_tests.specs.declared.value.Value.TheVariants.{Flag}
 use Rattle.tables.specs.Plan.{PlanParts, has_kind, same_kind}
-use Rattle.cutplan.specs.declared.region.Region.{Region}
-use Rattle.cutplan.specs.declared.region.Region.TheVariants.{Every}
+use Rattle.regions.specs.declared.region.Region.{Region}
+use Rattle.regions.specs.declared.region.Region.TheVariants.{Every}
 use Rattle.cutplan.specs.ClassWise.{regions_by}
 use Rattle.cutplan.specs.InputClasses.{name_kind}
 use Rattle.cutplan.specs.Matching.{has_at}
-use Rattle.cutplan.specs.Regions.{has_value, is_in, stretches}
-use Rattle.cutplan.specs.Values.{is_value, sort_values}
+use Rattle.regions.specs.Regions.{has_value, is_in, stretches}
+use Rattle.regions.specs.Values.{is_value, sort_values}
 use Rattle.cutplan.proofs.Alike.{Among}
 use Rattle.cutplan.proofs.ByMasks.{lies_at}
 use Rattle.cutplan.proofs.ColumnWise.{among_unfilter, value_kind}
@@ -25,9 +25,9 @@ use Rattle.cutplan.proofs.OpenRegions.{located}
 use Rattle.cutplan.proofs.Ordered.{count_no}
 use Rattle.cutplan.proofs.Overlapping.{among_kept}
 use Rattle.cutplan.proofs.Parting.{stretch_count}
-use Rattle.plan_checks.specs.Amounts.{has_money, is_amount, is_amount_name, is_money_value, is_possible, is_possible_region}
-use Rattle.plan_checks.specs.Zones.{IsZone, LieIn, region_at, regions_where}
-use Rattle.plan_checks.proofs.Lists.{get_there}
+use Rattle.plan_zones.specs.Amounts.{has_money, is_amount, is_amount_name, is_money_value, is_possible, is_possible_region}
+use Rattle.plan_zones.specs.Zones.{IsZone, LieIn, region_at, regions_where}
+use Rattle.plan_zones.proofs.Lists.{get_there}
 use Rattle.plan_checks.proofs.Money.{has_money_from, money_in, ordered}
 
 -- a claim can give the name this value

@@ -3,9 +3,9 @@ use Rattle.std.proofs.Common.{◌≡◌, inl, inr, false, refl, ap, sym, ◌∙�
 use Rattle.settlement.specs.declared.determination.Determination.{Determination}
 use Rattle.settlement.specs.declared.determination.Determination.TheVariants as determined
 use Rattle.settlement.specs.Settlement.{outcome_from}
-use Rattle.plan_checks.specs.Changes.{UnlistedSettleAlike, looked_at}
-use Rattle.plan_checks.specs.Determined.{determination_at}
-use Rattle.plan_checks.specs.Joint.{by_places}
+use Rattle.plan_zones.specs.Changes.{UnlistedSettleAlike, looked_at}
+use Rattle.plan_zones.specs.Determined.{determination_at}
+use Rattle.plan_zones.specs.Joint.{by_places}
 
 -- with remarks, all of a determination is compared
 all_looked_at : (d : Determination) → looked_at false d ≡ d

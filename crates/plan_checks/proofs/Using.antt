@@ -19,24 +19,24 @@ use Rattle.tables.specs.Inputs.{needs}
 use Rattle.tables.specs.Matching.{first_outside, holds_of, is_outside, matching, rule_matches, value_read}
 use Rattle.tables.specs.Plan.{PlanParts, IsPlan}
 use Rattle.settlement.specs.Bindings.{slot_of}
-use Rattle.cutplan.specs.declared.region.Region.{Region}
+use Rattle.regions.specs.declared.region.Region.{Region}
 use Rattle.cutplan.specs.ClassWise.{Covers, LiesInClass, Zone, answers_in, cell_holds_in, first_outside_in, is_outside_in, matching_in, rule_matches_in, table_value_in}
 use Rattle.cutplan.specs.InputClasses.{name_literals}
-use Rattle.cutplan.specs.Regions.{literals, rule_literals, test_literals}
+use Rattle.regions.specs.Regions.{literals, rule_literals, test_literals}
 use Rattle.cutplan.proofs.Alike.{Among, among_left}
 use Rattle.cutplan.proofs.ClassWise.{filter_agrees, first_agrees, input_asked, outside_asked, rule_asked, table_asked, tables_asked}
 use Rattle.cutplan.proofs.ColumnWise.{among_contained, literal_of_rule}
 use Rattle.cutplan.proofs.MaskRules.{among_got}
 use Rattle.cutplan.proofs.Overlapping.{among_flat, any_at, any_from, contained_among}
-use Rattle.plan_checks.specs.declared.rule_place.RulePlace.{RulePlace}
-use Rattle.plan_checks.specs.declared.rule_place.TestPlace.{TestPlace}
+use Rattle.plan_zones.specs.declared.rule_place.RulePlace.{RulePlace}
+use Rattle.plan_zones.specs.declared.rule_place.TestPlace.{TestPlace}
 use Rattle.plan_checks.specs.Dead.{AreDeadRules, AreDeadTests, AreUnused, GivesAnswer, IsMet}
-use Rattle.plan_checks.specs.Giving.{giving}
+use Rattle.plan_zones.specs.Giving.{giving}
 use Rattle.plan_checks.specs.Leaving.{Begins, IsLeft}
-use Rattle.plan_checks.specs.RulePlaces.{all_rules, all_tests, test_at, tests_of}
-use Rattle.plan_checks.specs.Runs.{gives_in, giving_in, has_rule, meets_in}
-use Rattle.plan_checks.specs.Zones.{ArePossible, LieIn, class_of, plan_regions}
-use Rattle.plan_checks.proofs.Asking.{alone}
+use Rattle.plan_zones.specs.RulePlaces.{all_rules, all_tests, test_at, tests_of}
+use Rattle.plan_zones.specs.Runs.{gives_in, giving_in, has_rule, meets_in}
+use Rattle.plan_zones.specs.Zones.{ArePossible, LieIn, class_of, plan_regions}
+use Rattle.plan_zones.proofs.Asking.{alone}
 use Rattle.plan_checks.proofs.Reaching.{giving_at, giving_there, meets_from, meets_there, some_of}
 use Rattle.plan_checks.proofs.Regions.{covered, values_in}
 use Rattle.plan_checks.proofs.Values.{in_class}

@@ -9,16 +9,16 @@ use Rattle.tables.specs.Inputs.{needs, value_at}
 use Rattle.tables.specs.Plan.{PlanParts, IsPlan}
 use Rattle.tables.proofs.NeededNames.{within_names}
 use Rattle.settlement.specs.Bindings.{slot_of}
-use Rattle.cutplan.specs.declared.region.Region.TheVariants.{Every}
+use Rattle.regions.specs.declared.region.Region.TheVariants.{Every}
 use Rattle.cutplan.specs.ClassWise.{Covers, LiesInClass, regions_by}
 use Rattle.cutplan.specs.InputClasses.{name_kind}
-use Rattle.cutplan.specs.Regions.{is_in}
-use Rattle.cutplan.specs.Values.{is_value}
+use Rattle.regions.specs.Regions.{is_in}
+use Rattle.regions.specs.Values.{is_value}
 use Rattle.cutplan.proofs.Alike.{Among}
 use Rattle.cutplan.proofs.ClassWise.{classes_are_valued}
 use Rattle.cutplan.proofs.Overlapping.{contained_among}
-use Rattle.plan_checks.specs.Amounts.{is_amount, is_money_value}
-use Rattle.plan_checks.specs.Zones.{ArePossible, LieIn, all_regions, class_of, regions_where, value_in}
+use Rattle.plan_zones.specs.Amounts.{is_amount, is_money_value}
+use Rattle.plan_zones.specs.Zones.{ArePossible, LieIn, all_regions, class_of, regions_where, value_in}
 use Rattle.plan_checks.proofs.Regions.{Fits, found_at, of_name}
 
 -- the slot of a value

@@ -11,14 +11,14 @@ use Rattle.tables.specs.Environment.{answers_of, table_value}
 use Rattle.tables.specs.Matching.{first_outside, matching, value_read}
 use Rattle.tables.specs.Plan.{PlanParts}
 use Rattle.settlement.specs.Bindings.{slot_of}
-use Rattle.plan_checks.specs.declared.fault.WholeFault.{WholeFault}
-use Rattle.plan_checks.specs.declared.fault.WholeFault.TheVariants.{TooWide, NoRoles, InputRole, OutOfMemory}
-use Rattle.plan_checks.specs.declared.rule_place.RulePlace.{RulePlace}
-use Rattle.plan_checks.specs.declared.rule_place.TestPlace.{TestPlace}
-use Rattle.plan_checks.specs.Giving.{giving}
+use Rattle.plan_zones.specs.declared.fault.WholeFault.{WholeFault}
+use Rattle.plan_zones.specs.declared.fault.WholeFault.TheVariants.{TooWide, NoRoles, InputRole, OutOfMemory}
+use Rattle.plan_zones.specs.declared.rule_place.RulePlace.{RulePlace}
+use Rattle.plan_zones.specs.declared.rule_place.TestPlace.{TestPlace}
+use Rattle.plan_zones.specs.Giving.{giving}
 use Rattle.plan_checks.specs.Pending.{counted_zones}
-use Rattle.plan_checks.specs.RulePlaces.{all_rules, all_tests, test_at}
-use Rattle.plan_checks.specs.Zones.{ArePossible}
+use Rattle.plan_zones.specs.RulePlaces.{all_rules, all_tests, test_at}
+use Rattle.plan_zones.specs.Zones.{ArePossible}
 
 -- the table at an index is asked: the tables before it have these answers, and no fault
 pub record IsAsked (p : PlanParts) (given : List Slot) (index : ℕ) (table : Table) (earlier : List (List Answer)) : Type 0 where

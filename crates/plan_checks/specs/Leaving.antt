@@ -1,7 +1,7 @@
 -- What a walk over zones leaves of a list of parts.
 use Rattle.std.specs.Prelude.{◌≡◌, ◌↔◌, ◌<◌, ℕ, Bool, false, List, [], ◌∷◌, ◌++◌, filter, Contains, IsTrue}
-use Rattle.cutplan.specs.declared.region.Region.{Region}
-use Rattle.plan_checks.specs.Zones.{IsZone}
+use Rattle.regions.specs.declared.region.Region.{Region}
+use Rattle.plan_zones.specs.Zones.{IsZone}
 
 -- the zone begins with these regions, and has one of these regions for each other name
 pub record Begins (first : List ℕ) (more : List (List Region)) (zone : List ℕ) : Type 0 where

@@ -6,12 +6,12 @@ use Rattle.faults.specs.declared.reason.Reason.{Reason}
 use Rattle.tables.specs.Plan.{PlanParts}
 use Rattle.settlement.specs.declared.determination.Determination.TheVariants.{Pended}
 use Rattle.cutplan.specs.Check.{cells}
-use Rattle.plan_checks.specs.declared.fault.WholeFault.{WholeFault}
-use Rattle.plan_checks.specs.declared.fault.WholeFault.TheVariants.{TooWide, NoRoles, InputRole, OutOfMemory}
-use Rattle.plan_checks.specs.declared.zone_box.ZoneBox.{ZoneBox}
-use Rattle.plan_checks.specs.Zones.{ArePossible, plan_regions}
-use Rattle.plan_checks.specs.Boxes.{LieInBox, OneOf}
-use Rattle.plan_checks.specs.Determined.{determination_at, role_fault}
+use Rattle.plan_zones.specs.declared.fault.WholeFault.{WholeFault}
+use Rattle.plan_zones.specs.declared.fault.WholeFault.TheVariants.{TooWide, NoRoles, InputRole, OutOfMemory}
+use Rattle.plan_zones.specs.declared.zone_box.ZoneBox.{ZoneBox}
+use Rattle.plan_zones.specs.Zones.{ArePossible, plan_regions}
+use Rattle.plan_zones.specs.Boxes.{LieInBox, OneOf}
+use Rattle.plan_zones.specs.Determined.{determination_at, role_fault}
 
 -- the number of zones of a plan
 abbrev pub zone_count : PlanParts → ℕ

@@ -10,16 +10,16 @@ use Rattle.tables.specs.declared.table.Table.{Table}
 use Rattle.tables.specs.Environment.{answers_of}
 use Rattle.tables.specs.Plan.{PlanParts}
 use Rattle.settlement.specs.Bindings.{slot_of}
-use Rattle.cutplan.specs.declared.region.Region.{Region}
+use Rattle.regions.specs.declared.region.Region.{Region}
 use Rattle.cutplan.specs.ClassWise.{answers_in}
-use Rattle.plan_checks.specs.declared.fault.WholeFault.{WholeFault}
-use Rattle.plan_checks.specs.declared.fault.WholeFault.TheVariants.{TooWide, NoRoles, InputRole, OutOfMemory}
-use Rattle.plan_checks.specs.declared.zone_box.ZoneBox.{ZoneBox}
-use Rattle.plan_checks.specs.Boxes.{LieInBox, OneOf}
+use Rattle.plan_zones.specs.declared.fault.WholeFault.{WholeFault}
+use Rattle.plan_zones.specs.declared.fault.WholeFault.TheVariants.{TooWide, NoRoles, InputRole, OutOfMemory}
+use Rattle.plan_zones.specs.declared.zone_box.ZoneBox.{ZoneBox}
+use Rattle.plan_zones.specs.Boxes.{LieInBox, OneOf}
 use Rattle.plan_checks.specs.Dead.{IsTooWide}
-use Rattle.plan_checks.specs.Determined.{role_fault}
+use Rattle.plan_zones.specs.Determined.{role_fault}
 use Rattle.plan_checks.specs.Pending.{PendsFor}
-use Rattle.plan_checks.specs.Zones.{ArePossible, class_of, plan_regions}
+use Rattle.plan_zones.specs.Zones.{ArePossible, class_of, plan_regions}
 
 -- the reason of a fault, if there is one
 abbrev pub fault_reason : Result (List (List Answer)) Fault → Option Reason

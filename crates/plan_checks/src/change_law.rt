@@ -1,5 +1,5 @@
 //! The law of plans between which no change is listed. The function has an empty body.
-ghost use Rattle.plan_checks.specs.Changes.{UnlistedSettleAlike};
+ghost use Rattle.plan_zones.specs.Changes.{UnlistedSettleAlike};
 
 /// If remarks are compared and no box is listed, both plans give each claim the same outcome, whatever
 /// its billed amount and its accumulators.

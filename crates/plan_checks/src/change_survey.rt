@@ -1,20 +1,15 @@
 //! The survey of two plans: what each says of the claims in a zone.
 ghost use Rattle.std.specs.Prelude.{◌≡◌, IfOk, slice_get};
 ghost use Rattle.std.specs.Option.{option_copied};
-ghost use Rattle.plan_checks.specs.Boxes.{AreBoxesOf};
-ghost use Rattle.plan_checks.specs.Changes.{ChangesIn, determination_by, says_by};
-ghost use Rattle.plan_checks.specs.Joint.{by_places};
+ghost use Rattle.plan_zones.specs.Boxes.{AreBoxesOf};
+ghost use Rattle.plan_zones.specs.Changes.{ChangesIn, determination_by, says_by};
+ghost use Rattle.plan_zones.specs.Joint.{by_places};
 
-use crate::benefit::{Benefit, benefit_in};
-use crate::change::Change;
-use crate::comparing::Comparing;
-use crate::joint::JointNames;
-use crate::survey::Survey;
-use crate::walk::boxes;
-use crate::zone_box::ZoneBox;
-use crate::zone_value::Zone;
 use cutplan::Region;
 use feel_tests::Sequence;
+use plan_zones::{
+    Benefit, Change, Comparing, JointNames, Survey, Zone, ZoneBox, benefit_in, boxes,
+};
 use std::alloc::{AllocError, Global};
 use tables::{Inputs, Plan};
 
@@ -58,7 +53,7 @@ struct ChangeSurvey<'p> {
 }
 
 impl<'p> Survey<Change> for ChangeSurvey<'p> {
-    ghost use Rattle.plan_checks.specs.Changes.{HasChange, says_by};
+    ghost use Rattle.plan_zones.specs.Changes.{HasChange, says_by};
 
     ghost has_outcome = { λ s zone outcome. HasChange
         (says_by s.terms_only s.old.plan.now s.old.places.now s.old.regions.now zone)

@@ -1,19 +1,15 @@
 //! The zones in which two plans differ in what they say of a claim before its amounts.
 ghost use Rattle.std.specs.Prelude.{◌≡◌, ◌≤◌, IfErr, IfOk, OnOk, None, length};
-ghost use Rattle.plan_checks.specs.Changes.{HaveChanges, DifferExactlyIn, HoldJointValues, IsCompareRefusal, counted_joint_zones, names_of, plans_of};
-ghost use Rattle.plan_checks.specs.Determined.{role_fault};
-ghost use Rattle.plan_checks.specs.Joint.{ArePlaced, joint_regions, place_of_new, place_of_old};
+ghost use Rattle.plan_zones.specs.Changes.{HaveChanges, DifferExactlyIn, HoldJointValues, IsCompareRefusal, counted_joint_zones, names_of, plans_of};
+ghost use Rattle.plan_zones.specs.Determined.{role_fault};
+ghost use Rattle.plan_zones.specs.Joint.{ArePlaced, joint_regions, place_of_new, place_of_old};
 
-use crate::change::Change;
 use crate::change_survey::boxes_of_changes;
-use crate::compare_fault::CompareFault;
-use crate::comparing::{Comparing, join_plans};
-use crate::joint::JointNames;
-use crate::joint_regions::regions_of_names;
-use crate::zone_box::ZoneBox;
-use crate::zone_regions::zone_count;
 use cutplan::Region;
 use feel_tests::Sequence;
+use plan_zones::{
+    Change, CompareFault, Comparing, JointNames, ZoneBox, join_plans, regions_of_names, zone_count,
+};
 use std::alloc::Global;
 use tables::Plan;
 

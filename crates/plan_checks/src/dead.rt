@@ -3,18 +3,16 @@ ghost use Rattle.std.specs.Prelude.{◌≡◌, ◌≤◌, [], IfErr, IfOk, OnOk,
 ghost use Rattle.plan_checks.specs.Dead.{AreDeadRules, AreDeadTests, IsTooWide};
 ghost use Rattle.plan_checks.specs.Leaving.{Begins, IsLeft};
 ghost use Rattle.plan_checks.specs.Pending.{counted_zones};
-ghost use Rattle.plan_checks.specs.RulePlaces.{all_rules, all_tests};
-ghost use Rattle.plan_checks.specs.Runs.{gives_in, is_giving, is_met, meets_in};
-ghost use Rattle.plan_checks.specs.Zones.{class_of};
+ghost use Rattle.plan_zones.specs.RulePlaces.{all_rules, all_tests};
+ghost use Rattle.plan_zones.specs.Runs.{gives_in, is_giving, is_met, meets_in};
+ghost use Rattle.plan_zones.specs.Zones.{class_of};
 
-use crate::fault::WholeFault;
-use crate::rule_place::{RulePlace, TestPlace, all_rules, tests_of_rules};
-use crate::walk::append_region;
-use crate::zone_regions::{plan_regions, zone_count};
-use crate::zone_tests::is_giving;
-use crate::zone_value::Zone;
 use cutplan::Region;
 use feel_tests::Sequence;
+use plan_zones::{
+    RulePlace, TestPlace, WholeFault, Zone, all_rules, append_region, is_giving, plan_regions,
+    tests_of_rules, zone_count,
+};
 use std::alloc::{AllocError, Global};
 use tables::{Answers, Inputs, Plan, Table};
 
@@ -133,7 +131,13 @@ impl<'p> Zones<'p> {
         }
         let run = zone.run(alloc, self.tables)?;
         leave_rules(alloc, run.giving.as_slice(), &mut left.rules)?;
-        zone.leave_tests(alloc, self.tables, run.answers.as_slice(), &mut left.tests)
+        leave_tests(
+            alloc,
+            &zone,
+            self.tables,
+            run.answers.as_slice(),
+            &mut left.tests,
+        )
     }
 }
 
@@ -155,26 +159,24 @@ fn leave_rules(
     Ok(())
 }
 
-impl<'z> Zone<'z> {
-    // Leaves the tests that are not met.
-    fn leave_tests(
-        &self,
-        alloc: Global,
-        tables: &[Table],
-        answers: &[Answers<'_>],
-        left: &mut Sequence<TestPlace>,
-    ) -> Result<(), AllocError>
-        ensures { OnOk result (left.new ≡ filter (λ place. not
-            (is_met (class_of self.now.regions.now self.now.places.now)
-            tables.now answers.now place)) left.old) }
-    {
-        let mut tests = Sequence::new(alloc);
-        for place in left.as_slice() {
-            if !self.meets(tables, answers, place) {
-                tests.push(*place)?;
-            }
+// Leaves the tests that are not met in the zone.
+fn leave_tests(
+    alloc: Global,
+    zone: &Zone<'_>,
+    tables: &[Table],
+    answers: &[Answers<'_>],
+    left: &mut Sequence<TestPlace>,
+) -> Result<(), AllocError>
+    ensures { OnOk result (left.new ≡ filter (λ place. not
+        (is_met (class_of zone.now.regions.now zone.now.places.now)
+        tables.now answers.now place)) left.old) }
+{
+    let mut tests = Sequence::new(alloc);
+    for place in left.as_slice() {
+        if !zone.meets(tables, answers, place) {
+            tests.push(*place)?;
         }
-        *left = tests;
-        Ok(())
     }
+    *left = tests;
+    Ok(())
 }

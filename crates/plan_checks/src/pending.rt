@@ -1,21 +1,17 @@
 //! The zones of a plan in which claims pend.
 ghost use Rattle.std.specs.Prelude.{◌≡◌, ◌≤◌, [], None, IfErr, IfOk, OnOk};
 ghost use Rattle.settlement.specs.Settlement.{by_roles};
-ghost use Rattle.plan_checks.specs.Determined.{reason_for, role_fault};
+ghost use Rattle.plan_zones.specs.Determined.{reason_for, role_fault};
 ghost use Rattle.plan_checks.specs.Pending.{HaveReasons, HoldValues, IsRefusal, PendExactlyIn, counted_zones};
-ghost use Rattle.plan_checks.specs.Zones.{plan_regions};
+ghost use Rattle.plan_zones.specs.Zones.{plan_regions};
 
-use crate::fault::WholeFault;
-use crate::input_role::role_fault;
-use crate::survey::{Outcome, Survey};
-use crate::terms::{is_covered, terms_of};
-use crate::walk::boxes;
-use crate::zone_box::ZoneBox;
-use crate::zone_regions::{plan_regions, zone_count};
-use crate::zone_value::Zone;
 use cutplan::Region;
 use faults::Reason;
 use feel_tests::Sequence;
+use plan_zones::{
+    Survey, WholeFault, Zone, ZoneBox, boxes, is_covered, plan_regions, role_fault, terms_of,
+    zone_count,
+};
 use std::alloc::{AllocError, Global};
 use tables::{Env, Inputs, Plan, Roles};
 
@@ -42,15 +38,9 @@ struct PendingSurvey<'p> {
     blank: &'p Inputs,
 }
 
-impl Outcome for Reason {
-    fn is_same(&self, other: &Reason) -> bool {
-        *self == *other
-    }
-}
-
 impl<'p> Survey<Reason> for PendingSurvey<'p> {
     ghost use Rattle.std.specs.Prelude.{◌≡◌};
-    ghost use Rattle.plan_checks.specs.Determined.{reason_in};
+    ghost use Rattle.plan_zones.specs.Determined.{reason_in};
 
     ghost has_outcome = { λ s places outcome. outcome ≡ reason_in s.plan.now s.regions.now places };
 

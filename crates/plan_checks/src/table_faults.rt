@@ -4,17 +4,13 @@ ghost use Rattle.std.specs.Prelude.{◌≡◌, ◌≤◌, IfErr, IfOk, OnOk};
 ghost use Rattle.plan_checks.specs.Dead.{IsTooWide};
 ghost use Rattle.plan_checks.specs.Pending.{HaveReasons, HoldValues, counted_zones};
 ghost use Rattle.plan_checks.specs.TableFaults.{FailExactlyIn, HaveFaultsExactlyIn, IsUnlisted};
-ghost use Rattle.plan_checks.specs.Zones.{plan_regions};
+ghost use Rattle.plan_zones.specs.Zones.{plan_regions};
 
-use crate::fault::WholeFault;
 use crate::pending::{PendingZones, pending_zones};
-use crate::survey::Survey;
-use crate::walk::boxes;
-use crate::zone_regions::{plan_regions, zone_count};
-use crate::zone_value::Zone;
 use cutplan::Region;
 use faults::Reason;
 use feel_tests::Sequence;
+use plan_zones::{Survey, WholeFault, Zone, boxes, plan_regions, zone_count};
 use std::alloc::{AllocError, Global};
 use tables::{Inputs, Plan, Table};
 

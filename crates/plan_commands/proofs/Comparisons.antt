@@ -4,15 +4,15 @@ use Rattle.std.proofs.lemmas.Result.{IfErr-weaker, IfOk-weaker}
 use Rattle.clap.specs.declared.parser.matches.ArgMatches.{ArgMatches}
 use Rattle.tables.specs.Plan.{PlanParts}
 use Rattle.dtable.specs.PlanFile.{IsPlanText}
-use Rattle.plan_checks.specs.declared.compare_fault.CompareFault.{CompareFault}
-use Rattle.plan_checks.specs.declared.compare_fault.CompareFault.TheVariants as compare
-use Rattle.plan_checks.specs.declared.compare_fault.Side.{Side}
-use Rattle.plan_checks.specs.declared.compare_fault.Side.TheVariants.{Old, New}
-use Rattle.plan_checks.specs.declared.comparing.Comparing.{Comparing}
-use Rattle.plan_checks.specs.declared.joint.JointNames.{JointNames}
+use Rattle.plan_zones.specs.declared.compare_fault.CompareFault.{CompareFault}
+use Rattle.plan_zones.specs.declared.compare_fault.CompareFault.TheVariants as compare
+use Rattle.plan_zones.specs.declared.compare_fault.Side.{Side}
+use Rattle.plan_zones.specs.declared.compare_fault.Side.TheVariants.{Old, New}
+use Rattle.plan_zones.specs.declared.comparing.Comparing.{Comparing}
+use Rattle.plan_zones.specs.declared.joint.JointNames.{JointNames}
 use Rattle.plan_checks.specs.declared.pending.TheConstants.{ZONE_LIMIT}
-use Rattle.plan_checks.specs.declared.zone_box.ZoneBox.{ZoneBox}
-use Rattle.plan_checks.specs.Changes.{DifferExactlyIn, HoldJointValues, IsCompareRefusal, plans_of}
+use Rattle.plan_zones.specs.declared.zone_box.ZoneBox.{ZoneBox}
+use Rattle.plan_zones.specs.Changes.{DifferExactlyIn, HoldJointValues, IsCompareRefusal, plans_of}
 use Rattle.evaluation.specs.declared.stop.ValueStop.{ValueStop}
 use Rattle.evaluation.specs.Stop.{IsPlanReason, status_of}
 use Rattle.console.specs.declared.exit_status.ExitStatus.{ExitStatus}

@@ -3,11 +3,11 @@ use Rattle.std.proofs.Common.{◌≡◌, ◌↔◌, ℕ, ◌+◌, ◌<◌, ◌�
 use Rattle.std.specs.List.{slice_get}
 use Rattle.std.proofs.lemmas.Bool.{cases_lt, false≢true}
 use Rattle.std.proofs.lemmas.Option.{none-some, same_Some}
-use Rattle.plan_checks.specs.Boxes.{IsInside, OneOf}
+use Rattle.plan_zones.specs.Boxes.{IsInside, OneOf}
 use Rattle.plan_commands.specs.ChangeLines.{AreLinesOf, DifferIn, HasPart, HavePart, HaveZonesWith, IsOnLine}
 use Rattle.plan_commands.specs.ZoneSets.{AreIn, HaveSameZones, IsOn}
 use Rattle.plan_commands.specs.declared.change_lines.Line.{Line}
-use Rattle.plan_checks.specs.declared.zone_box.ZoneBox.{ZoneBox}
+use Rattle.plan_zones.specs.declared.zone_box.ZoneBox.{ZoneBox}
 use Rattle.plan_commands.specs.declared.zone_sets.ZoneSet.{ZoneSet}
 use Rattle.plan_commands.proofs.Unions.{last_join, last_split, set_here, set_join, set_split, take_join, take_split}
 

@@ -5,9 +5,9 @@ use Rattle.clap.specs.declared.parser.matches.ArgMatches.{ArgMatches}
 use Rattle.console.specs.declared.exit_status.ExitStatus.{ExitStatus}
 use Rattle.console.specs.declared.exit_status.ExitStatus.TheVariants.{Done, Refused}
 use Rattle.evaluation.specs.Stop.{WritesText}
-use Rattle.plan_checks.specs.RowsStop.{IsReason, status_of}
-use Rattle.plan_checks.specs.ValuedRows.{IsRowsText}
-use Rattle.plan_checks.specs.declared.rows_stop.RowsStop.{RowsStop}
+use Rattle.plan_rows.specs.RowsStop.{IsReason, status_of}
+use Rattle.plan_rows.specs.ValuedRows.{IsRowsText}
+use Rattle.plan_rows.specs.declared.rows_stop.RowsStop.{RowsStop}
 use Rattle.remarks.specs.Quotes.{EndsInQuotes}
 use Rattle.value_command.specs.Ends.{IsStatusOf}
 use Rattle.value_command.specs.Texts.{IsNamedPlan, Whole}

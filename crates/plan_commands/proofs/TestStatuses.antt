@@ -5,9 +5,9 @@ use Rattle.clap.specs.declared.parser.matches.ArgMatches.{ArgMatches}
 use Rattle.console.specs.declared.exit_status.ExitStatus.{ExitStatus}
 use Rattle.console.specs.declared.exit_status.ExitStatus.TheVariants.{Done, Refused}
 use Rattle.evaluation.specs.Stop.{WritesText}
-use Rattle.plan_checks.specs.Report.{IsTestText}
-use Rattle.plan_checks.specs.declared.testing.Tested.{Tested}
-use Rattle.plan_checks.specs.declared.testing.Tested.TheVariants.{AllRight, Differing}
+use Rattle.plan_rows.specs.Report.{IsTestText}
+use Rattle.plan_rows.specs.declared.testing.Tested.{Tested}
+use Rattle.plan_rows.specs.declared.testing.Tested.TheVariants.{AllRight, Differing}
 use Rattle.remarks.specs.Quotes.{EndsInQuotes}
 use Rattle.value_command.specs.Ends.{HasText}
 use Rattle.value_command.specs.Texts.{IsNamedPlan, Whole}

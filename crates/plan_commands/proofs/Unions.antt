@@ -3,7 +3,7 @@ use Rattle.std.proofs.Common.{◌≡◌, ℕ, zero, suc, ◌+◌, ◌<◌, ◌�
 use Rattle.std.specs.List.{insert, slice_get}
 use Rattle.std.proofs.lemmas.Option.{none-some, same_Some}
 use Rattle.plan_commands.specs.declared.zone_sets.ZoneSet.{ZoneSet}
-use Rattle.plan_checks.specs.Boxes.{IsInside, OneOf}
+use Rattle.plan_zones.specs.Boxes.{IsInside, OneOf}
 use Rattle.plan_commands.specs.ZoneSets.{HasBoth, HaveAlso, HaveSameZones, IsOn, IsUnion}
 
 -- an element more in a list

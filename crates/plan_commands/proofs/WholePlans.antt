@@ -17,20 +17,20 @@ use Rattle.cutplan.proofs.ColumnWise.{among_contained, among_unfilter}
 use Rattle.cutplan.proofs.Holding.{among_passes}
 use Rattle.cutplan.proofs.Overlapping.{among_kept, contained_among}
 use Rattle.dtable.specs.PlanFile.{IsPlanText}
-use Rattle.plan_checks.specs.declared.fault.WholeFault.{WholeFault}
-use Rattle.plan_checks.specs.declared.fault.WholeFault.TheVariants as whole
+use Rattle.plan_zones.specs.declared.fault.WholeFault.{WholeFault}
+use Rattle.plan_zones.specs.declared.fault.WholeFault.TheVariants as whole
 use Rattle.plan_checks.specs.declared.dead.DeadParts.{DeadParts}
 use Rattle.plan_checks.specs.declared.pending.PendingZones.{PendingZones}
 use Rattle.plan_checks.specs.declared.pending.TheConstants.{ZONE_LIMIT}
-use Rattle.plan_checks.specs.declared.rule_place.RulePlace.{RulePlace}
-use Rattle.plan_checks.specs.declared.rule_place.TestPlace.{TestPlace}
-use Rattle.plan_checks.specs.declared.zone_box.ZoneBox.{ZoneBox}
-use Rattle.plan_checks.specs.Boxes.{LieInBox, OneOf}
+use Rattle.plan_zones.specs.declared.rule_place.RulePlace.{RulePlace}
+use Rattle.plan_zones.specs.declared.rule_place.TestPlace.{TestPlace}
+use Rattle.plan_zones.specs.declared.zone_box.ZoneBox.{ZoneBox}
+use Rattle.plan_zones.specs.Boxes.{LieInBox, OneOf}
 use Rattle.plan_checks.specs.Dead.{AreDeadRules, AreDeadTests, AreUnused, GivesAnswer, IsMet}
 use Rattle.plan_checks.specs.Pending.{HaveReasons, HoldValues, counted_zones}
-use Rattle.plan_checks.specs.RulePlaces.{all_rules, all_tests}
+use Rattle.plan_zones.specs.RulePlaces.{all_rules, all_tests}
 use Rattle.plan_checks.specs.TableFaults.{FailExactlyIn, FailsFor, IsUnlisted as IsUnlistedPlan}
-use Rattle.plan_checks.specs.Zones.{ArePossible, plan_regions}
+use Rattle.plan_zones.specs.Zones.{ArePossible, plan_regions}
 use Rattle.evaluation.specs.declared.stop.ValueStop.{ValueStop}
 use Rattle.evaluation.specs.declared.stop.ValueStop.TheVariants as value
 use Rattle.evaluation.specs.Stop.{IsPlanReason, IsStopOfPlan, RefusesPlan, status_of}

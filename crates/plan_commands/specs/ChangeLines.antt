@@ -1,9 +1,9 @@
 -- The lines of a comparison: parts of changes, and the zones in which the plans differ in them.
 use Rattle.std.specs.Prelude.{◌≡◌, ◌↔◌, ◌⊎◌, ◌<◌, ℕ, List, Some, slice_get}
-use Rattle.plan_checks.specs.Boxes.{IsInside, OneOf}
+use Rattle.plan_zones.specs.Boxes.{IsInside, OneOf}
 use Rattle.plan_commands.specs.ZoneSets.{AreIn, IsOn}
 use Rattle.plan_commands.specs.declared.change_lines.Line.{Line}
-use Rattle.plan_checks.specs.declared.zone_box.ZoneBox.{ZoneBox}
+use Rattle.plan_zones.specs.declared.zone_box.ZoneBox.{ZoneBox}
 use Rattle.plan_commands.specs.declared.zone_sets.ZoneSet.{ZoneSet}
 
 -- the change with this index has the part

@@ -14,17 +14,17 @@ use Rattle.tables.specs.Plan.{PlanParts}
 use Rattle.dtable.specs.PlanFile.{IsPlanText}
 use Rattle.evaluation.specs.Arguments.{IsSplit, equals_sign}
 use Rattle.evaluation.specs.Stop.{IsPlanReason, status_of}
-use Rattle.plan_checks.specs.declared.compare_fault.CompareFault.{CompareFault}
-use Rattle.plan_checks.specs.declared.compare_fault.CompareFault.TheVariants as compare
-use Rattle.plan_checks.specs.declared.compare_fault.Side.{Side}
-use Rattle.plan_checks.specs.declared.compare_fault.Side.TheVariants.{Old, New}
-use Rattle.plan_checks.specs.declared.comparing.Comparing.{Comparing}
-use Rattle.plan_checks.specs.declared.joint.JointNames.{JointNames}
-use Rattle.plan_checks.specs.declared.joint.Rename.{Rename}
-use Rattle.plan_checks.specs.declared.joint_regions.Narrowing.{Narrowing}
+use Rattle.plan_zones.specs.declared.compare_fault.CompareFault.{CompareFault}
+use Rattle.plan_zones.specs.declared.compare_fault.CompareFault.TheVariants as compare
+use Rattle.plan_zones.specs.declared.compare_fault.Side.{Side}
+use Rattle.plan_zones.specs.declared.compare_fault.Side.TheVariants.{Old, New}
+use Rattle.plan_zones.specs.declared.comparing.Comparing.{Comparing}
+use Rattle.plan_zones.specs.declared.joint.JointNames.{JointNames}
+use Rattle.plan_zones.specs.declared.joint.Rename.{Rename}
+use Rattle.plan_zones.specs.declared.joint_regions.Narrowing.{Narrowing}
 use Rattle.plan_checks.specs.declared.pending.TheConstants.{ZONE_LIMIT}
-use Rattle.plan_checks.specs.Changes.{Differ, IsCompareRefusal, counted_joint_zones, names_of, plans_of, says}
-use Rattle.plan_checks.specs.Joint.{AreJointPossible, ArePlaced, place_of_new, place_of_old}
+use Rattle.plan_zones.specs.Changes.{Differ, IsCompareRefusal, counted_joint_zones, names_of, plans_of, says}
+use Rattle.plan_zones.specs.Joint.{AreJointPossible, ArePlaced, place_of_new, place_of_old}
 use Rattle.console.specs.declared.exit_status.ExitStatus.{ExitStatus}
 use Rattle.console.specs.declared.names.TheConstants.{NARROWED, OLD, RENAMED, TERMS}
 use Rattle.value_command.specs.Ends.{IsStatusOf}

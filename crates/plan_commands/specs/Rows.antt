@@ -4,8 +4,8 @@ use Rattle.clap.specs.declared.parser.matches.ArgMatches.{ArgMatches}
 use Rattle.console.specs.declared.exit_status.ExitStatus.{ExitStatus}
 use Rattle.console.specs.declared.names.TheConstants.{ROWS}
 use Rattle.intake_csv.specs.Limits.{file_limit_bytes}
-use Rattle.plan_checks.specs.RowsStop.{IsReason, status_of}
-use Rattle.plan_checks.specs.ValuedRows.{IsRowsText}
+use Rattle.plan_rows.specs.RowsStop.{IsReason, status_of}
+use Rattle.plan_rows.specs.ValuedRows.{IsRowsText}
 use Rattle.remarks.specs.Quotes.{EndsInQuotes}
 use Rattle.value_command.specs.Ends.{HasText, IsStatusOf}
 use Rattle.value_command.specs.Texts.{IsNamedPlan, IsNamedText, Whole}

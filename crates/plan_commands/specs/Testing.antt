@@ -4,9 +4,9 @@ use Rattle.clap.specs.declared.parser.matches.ArgMatches.{ArgMatches}
 use Rattle.console.specs.declared.exit_status.ExitStatus.{ExitStatus}
 use Rattle.console.specs.declared.names.TheConstants.{CASES}
 use Rattle.intake_csv.specs.Limits.{file_limit_bytes}
-use Rattle.plan_checks.specs.Report.{IsTestText}
-use Rattle.plan_checks.specs.Stop.{IsReason, status_of}
-use Rattle.plan_checks.specs.declared.testing.Tested.TheVariants.{AllRight, Differing}
+use Rattle.plan_rows.specs.Report.{IsTestText}
+use Rattle.plan_rows.specs.Stop.{IsReason, status_of}
+use Rattle.plan_rows.specs.declared.testing.Tested.TheVariants.{AllRight, Differing}
 use Rattle.remarks.specs.Quotes.{EndsInQuotes}
 use Rattle.value_command.specs.Ends.{HasText, IsStatusOf}
 use Rattle.value_command.specs.Texts.{IsNamedPlan, IsNamedText, Whole}

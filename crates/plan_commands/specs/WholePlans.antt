@@ -9,17 +9,17 @@ use Rattle.faults.specs.declared.role_key.RoleKey.{RoleKey}
 use Rattle.clap.specs.declared.parser.matches.ArgMatches.{ArgMatches}
 use Rattle.tables.specs.Plan.{PlanParts}
 use Rattle.dtable.specs.PlanFile.{IsPlanText}
-use Rattle.plan_checks.specs.declared.fault.WholeFault.TheVariants as whole
+use Rattle.plan_zones.specs.declared.fault.WholeFault.TheVariants as whole
 use Rattle.plan_checks.specs.declared.dead.DeadParts.{DeadParts}
 use Rattle.plan_checks.specs.declared.pending.PendingZones.{PendingZones}
 use Rattle.plan_checks.specs.declared.pending.TheConstants.{ZONE_LIMIT}
-use Rattle.plan_checks.specs.declared.zone_box.ZoneBox.{ZoneBox}
+use Rattle.plan_zones.specs.declared.zone_box.ZoneBox.{ZoneBox}
 use Rattle.plan_checks.specs.Dead.{GivesAnswer, IsMet}
-use Rattle.plan_checks.specs.Determined.{role_fault}
+use Rattle.plan_zones.specs.Determined.{role_fault}
 use Rattle.plan_checks.specs.Pending.{counted_zones}
-use Rattle.plan_checks.specs.RulePlaces.{all_rules, all_tests}
+use Rattle.plan_zones.specs.RulePlaces.{all_rules, all_tests}
 use Rattle.plan_checks.specs.TableFaults.{FailsFor}
-use Rattle.plan_checks.specs.Zones.{ArePossible}
+use Rattle.plan_zones.specs.Zones.{ArePossible}
 use Rattle.evaluation.specs.declared.stop.ValueStop.TheVariants.{NoMemory}
 use Rattle.evaluation.specs.Stop.{IsPlanReason, status_of}
 use Rattle.console.specs.declared.exit_status.ExitStatus.{ExitStatus}

@@ -1,7 +1,7 @@
 -- Sets of zones, and how they are joined.
 use Rattle.std.specs.Prelude.{◌≡◌, ◌↔◌, ◌⊎◌, ℕ, List}
 use Rattle.plan_commands.specs.declared.zone_sets.ZoneSet.{ZoneSet}
-use Rattle.plan_checks.specs.Boxes.{IsInside, OneOf}
+use Rattle.plan_zones.specs.Boxes.{IsInside, OneOf}
 
 -- the region is on the side
 abbrev pub IsOn : List ℕ → ℕ → Type 0

@@ -1,7 +1,7 @@
 //! The lines of a comparison: parts of changes, and the zones in which the plans differ in them.
 
 ghost use Rattle.std.specs.Prelude.{◌≡◌, ◌↔◌, ◌⊎◌, IfOk, IsTrue, List, OnOk, ℕ};
-ghost use Rattle.plan_checks.specs.Boxes.{IsInside};
+ghost use Rattle.plan_zones.specs.Boxes.{IsInside};
 ghost use Rattle.plan_commands.specs.ChangeLines.{AreLinesOf, DifferIn, HasPart, HavePart, HaveZonesWith};
 ghost use Rattle.plan_commands.specs.ZoneSets.{AreIn, HaveAlso, IsOn};
 

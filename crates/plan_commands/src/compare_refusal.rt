@@ -4,7 +4,7 @@ ghost use Rattle.std.specs.Prelude.{◌≡◌, ◌≢◌};
 ghost use Rattle.console.specs.ExitStatus.{code_of};
 ghost use Rattle.console.specs.declared.exit_status.ExitStatus.TheVariants.{Done, Refused, Resource};
 ghost use Rattle.evaluation.specs.Stop.{status_of};
-ghost use Rattle.plan_checks.specs.declared.compare_fault.CompareFault.TheVariants as compare;
+ghost use Rattle.plan_zones.specs.declared.compare_fault.CompareFault.TheVariants as compare;
 ghost use Rattle.plan_commands.specs.Comparing.{AreUncompared, StopsTexts};
 ghost use Rattle.plan_commands.specs.declared.compare_words.WordFault.TheVariants as word;
 

@@ -2,7 +2,7 @@
 
 ghost use Rattle.std.specs.Prelude.{◌≡◌, IfErr, IfOk, false};
 ghost use Rattle.dtable.specs.PlanFile.{IsPlanText};
-ghost use Rattle.plan_checks.specs.declared.compare_fault.CompareFault.TheVariants as compare;
+ghost use Rattle.plan_zones.specs.declared.compare_fault.CompareFault.TheVariants as compare;
 ghost use Rattle.plan_commands.specs.WholePlans.{has_no_box};
 ghost use Rattle.plan_commands.specs.Comparing.{AreCompared, AreComparedPlans, AreComparedTexts, IsTextStop, StopsComparing, StopsPlans, StopsTexts};
 ghost use Rattle.plan_commands.specs.declared.compare_report.CompareStop.TheVariants.{Plans};
@@ -49,7 +49,7 @@ pub enum CompareStop {
 
 impl From<AllocError> for CompareStop {
     ghost use Rattle.std.specs.Prelude.{◌≡◌};
-    ghost use Rattle.plan_checks.specs.declared.compare_fault.CompareFault.TheVariants.{OutOfMemory};
+    ghost use Rattle.plan_zones.specs.declared.compare_fault.CompareFault.TheVariants.{OutOfMemory};
     ghost use Rattle.plan_commands.specs.declared.compare_report.CompareStop.TheVariants.{Plans};
 
     ghost from_gives = { λ _ stop. stop ≡ Plans OutOfMemory };

@@ -2,7 +2,7 @@
 
 use diagnostics::is_one_edit;
 use dtable::{PlanCause, read_plan};
-use plan_checks::FAULT;
+use plan_rows::FAULT;
 use std::alloc::{AllocError, Global};
 use tables::Plan;
 

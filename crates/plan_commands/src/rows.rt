@@ -11,7 +11,7 @@ use clap::ArgMatches;
 use console::names::ROWS;
 use console::{AtomicTarget, ExitStatus, Sources, input_once};
 use fixpoint::Out;
-use plan_checks::{CASES_LIMIT_BYTES, do_rows};
+use plan_rows::{CASES_LIMIT_BYTES, do_rows};
 use remarks::ends_in_quotes;
 use std::io;
 use std::rt::Files;

@@ -3,7 +3,7 @@
 use crate::test_explaining::{begin_column, print_words};
 use diagnostics::Explanation;
 use evaluation::ValueStop;
-use plan_checks::{RowsFault, RowsStop, name_of_column};
+use plan_rows::{RowsFault, RowsStop, name_of_column};
 use std::alloc::{AllocError, Global};
 use value_command::{About, print_message, value_message};
 

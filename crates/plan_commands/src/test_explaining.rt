@@ -3,7 +3,7 @@
 use crate::near_names::push_near;
 use diagnostics::{Explanation, explain, push_printable};
 use evaluation::ValueStop;
-use plan_checks::{CasesFault, TestStop, name_of_column};
+use plan_rows::{CasesFault, TestStop, name_of_column};
 use std::alloc::{AllocError, Global};
 use value_command::{About, print_message, value_message};
 

@@ -3,8 +3,8 @@
 ghost use Rattle.std.specs.Prelude.{◌≡◌, ◌≢◌, ◌⊎◌, IfErr, IfOk, false, true};
 ghost use Rattle.console.specs.declared.exit_status.ExitStatus.TheVariants.{Done, Refused};
 ghost use Rattle.console.specs.ExitStatus.{IsUnjudged, code_of};
-ghost use Rattle.plan_checks.specs.Stop.{status_of};
-ghost use Rattle.plan_checks.specs.declared.testing.Tested.TheVariants as outcomes;
+ghost use Rattle.plan_rows.specs.Stop.{status_of};
+ghost use Rattle.plan_rows.specs.declared.testing.Tested.TheVariants as outcomes;
 ghost use Rattle.plan_commands.specs.Testing.{IsDoneTest, IsNamedCases, IsRefusedTest, TestIsDone, TestIsRefused};
 
 use crate::lines::report_open_quote;
@@ -13,7 +13,7 @@ use clap::ArgMatches;
 use console::names::CASES;
 use console::{AtomicTarget, ExitStatus, Sources, input_once};
 use fixpoint::Out;
-use plan_checks::{CASES_LIMIT_BYTES, TestStop, Tested, do_test};
+use plan_rows::{CASES_LIMIT_BYTES, TestStop, Tested, do_test};
 use remarks::ends_in_quotes;
 use std::io;
 use std::rt::Files;

@@ -1,7 +1,7 @@
 //! The cells of a plan that hold for no allowed value of their input, so that their rules never match.
 
+use claim_diagnostics::CellPlace;
 use cutplan::{Partition, Region, holds_in};
-use diagnostics::CellPlace;
 use dtable::read_plan;
 use feel_tests::{Cell, Test};
 use std::alloc::{AllocError, Global};

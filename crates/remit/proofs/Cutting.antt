@@ -5,15 +5,15 @@ use Rattle.tables.specs.declared.table.InputData.{InputData}
 use Rattle.intake_csv.specs.Laws.{LieApart, StartHasTheRows}
 use Rattle.intake_csv.specs.Rows.{AreRowsLeft, AreRowsOf, IsAtStart, RowsLeft}
 use Rattle.intake_csv.specs.declared.rows.Row.{Row}
-use Rattle.remit.specs.Records.{Deciding}
-use Rattle.remit.specs.RecordWriter.{At, IsNoMemory, Writes, at}
-use Rattle.remit.specs.Rows.{Begin, IsRead, IsWithin, Skips, WritesFile, WritesLeft, rows_text, up_to}
+use Rattle.remit_records.specs.Records.{Deciding}
+use Rattle.remit_records.specs.RecordWriter.{At, IsNoMemory, Writes, at}
+use Rattle.remit_records.specs.Rows.{Begin, IsRead, IsWithin, Skips, WritesFile, WritesLeft, rows_text, up_to}
 use Rattle.remit.specs.Sections.{AreCut, WritesBetween, WritesSection}
 use Rattle.remit.specs.declared.sections.Section.{Section}
 use Rattle.faults.specs.declared.write_fault.WriteFault.{WriteFault}
-use Rattle.remit.specs.declared.record_writer.RecordWriter.{RecordWriter}
-use Rattle.remit.proofs.Holding.{no-memory, writes-then}
-use Rattle.remit.proofs.Passing.{rows-append}
+use Rattle.remit_records.specs.declared.record_writer.RecordWriter.{RecordWriter}
+use Rattle.remit_records.proofs.Holding.{no-memory, writes-then}
+use Rattle.remit_records.proofs.Passing.{rows-append}
 
 -- the last elements of the first `end` ones, after the first `start` ones
 drop-of-take : (start end : ℕ) (rows : List Row) → take (end - start) (drop start rows) ≡ drop start (take end rows)

@@ -1,15 +1,3 @@
-pub mod Adding
-pub mod Holding
-pub mod Pushing
-pub mod PushedRows
-pub mod Noting
-pub mod Passing
 pub mod Limiting
 pub mod Cutting
-pub mod RowSummaries
-pub mod Remarking
-pub mod Filing
-pub mod Looking
-pub mod Reporting
 pub mod Parting
-pub mod Counting

@@ -7,14 +7,14 @@ use Rattle.intake_csv.specs.Laws.{GivenRowIsTheFirst, NoRecordsNoRows}
 use Rattle.intake_csv.specs.Rows.{AreRowsLeft, GivesRow, RowsLeft}
 use Rattle.intake_csv.specs.declared.records.Stage.TheVariants.{Over}
 use Rattle.intake_csv.specs.declared.rows.Row.{Row}
-use Rattle.remit.specs.Records.{Deciding, record_of}
-use Rattle.remit.specs.Report.{record_text}
-use Rattle.remit.specs.Rows.{Begin, GivesFirst, GivesUpTo, IsWithin, Passed, Skips, WritesLeft, rows_text, up_to}
-use Rattle.remit.specs.RecordWriter.{At, IsNoMemory, Writes, at}
+use Rattle.remit_records.specs.Records.{Deciding, record_of}
+use Rattle.remit_records.specs.Report.{record_text}
+use Rattle.remit_records.specs.Rows.{Begin, GivesFirst, GivesUpTo, IsWithin, Passed, Skips, WritesLeft, rows_text, up_to}
+use Rattle.remit_records.specs.RecordWriter.{At, IsNoMemory, Writes, at}
 use Rattle.faults.specs.declared.write_fault.WriteFault.{WriteFault}
-use Rattle.remit.specs.declared.record_writer.RecordWriter.{RecordWriter}
-use Rattle.remit.proofs.Holding.{gathers-and-hands, no-memory, writes-none, writes-then}
-use Rattle.remit.proofs.Passing.{passed-all, passed-next, passed-none, rows-push}
+use Rattle.remit_records.specs.declared.record_writer.RecordWriter.{RecordWriter}
+use Rattle.remit_records.proofs.Holding.{gathers-and-hands, no-memory, writes-none, writes-then}
+use Rattle.remit_records.proofs.Passing.{passed-all, passed-next, passed-none, rows-push}
 
 -- `given` rows are returned, not more than the limit, and `left` rows are left up to it
 pub record Counts (limit : Option ℕ) (given : ℕ) (left : Option ℕ) : Type 0 where

@@ -4,14 +4,14 @@ use Rattle.std.specs.Io.KnownBytes.{Appends}
 use Rattle.std.proofs.lemmas.Bool.{false≢true}
 use Rattle.tables.specs.declared.table.InputData.{InputData}
 use Rattle.intake_csv.specs.declared.rows.Row.{Row}
-use Rattle.remit.specs.RecordWriter.{At, IsUnused, Writes, gathered_of}
+use Rattle.remit_records.specs.RecordWriter.{At, IsUnused, Writes, gathered_of}
 use Rattle.remit.specs.Sections.{AreRowsBetween, BeginBetween, IsPart, WritesSection}
-use Rattle.remit.specs.Records.{Deciding}
-use Rattle.remit.specs.Rows.{rows_text}
+use Rattle.remit_records.specs.Records.{Deciding}
+use Rattle.remit_records.specs.Rows.{rows_text}
 use Rattle.remit.specs.declared.sections.Section.{Section}
 use Rattle.faults.specs.declared.write_fault.WriteFault.{WriteFault}
-use Rattle.remit.proofs.Holding.{writes-then}
-use Rattle.remit.proofs.Reporting.{written-whole}
+use Rattle.remit_records.proofs.Holding.{writes-then}
+use Rattle.remit_records.proofs.Reporting.{written-whole}
 
 -- a section is the whole text of a file's rows, written into an empty buffer
 pub part-made : (decided : Deciding) (section : Section) (names : List InputData) (text : List ℕ) (a b e : At) (bytes : List ℕ) (first last : Result (Unit {0}) WriteFault)

@@ -4,9 +4,9 @@ use Rattle.std.specs.Global.{Vec}
 use Rattle.tables.specs.declared.table.InputData.{InputData}
 use Rattle.intake_csv.specs.Rows.{AreRowsOf}
 use Rattle.intake_csv.specs.declared.rows.Row.{Row}
-use Rattle.remit.specs.RecordWriter.{At, Writes}
-use Rattle.remit.specs.Records.{Deciding}
-use Rattle.remit.specs.Rows.{Begin, IsRead, IsWithin, rows_text, up_to}
+use Rattle.remit_records.specs.RecordWriter.{At, Writes}
+use Rattle.remit_records.specs.Records.{Deciding}
+use Rattle.remit_records.specs.Rows.{Begin, IsRead, IsWithin, rows_text, up_to}
 use Rattle.faults.specs.declared.write_fault.WriteFault.{WriteFault}
 use Rattle.remit.specs.declared.sections.Section.{Section}
 

@@ -2,17 +2,17 @@
 ghost use Rattle.std.specs.Prelude.{◌≡◌, ◌≤◌, ◌<◌, ◌-◌, ◌+◌, [], get_or, length, take};
 ghost use Rattle.std.specs.Thread.{IsSync};
 ghost use Rattle.fixpoint.specs.Out.{has_failed, writer_of};
-ghost use Rattle.remit.specs.RecordWriter.{at};
-ghost use Rattle.remit.specs.Looked.{looked_up};
+ghost use Rattle.remit_records.specs.RecordWriter.{at};
+ghost use Rattle.remit_records.specs.Looked.{looked_up};
 ghost use Rattle.remit.specs.Sections.{MayBePart, WritesSection, whole_file};
-ghost use Rattle.remit.specs.Rows.{WritesFile, WritesFiles, WritesOn};
+ghost use Rattle.remit_records.specs.Rows.{WritesFile, WritesFiles, WritesOn};
 
-use crate::decisions::Decisions;
 use crate::report::Report;
 use crate::sections::{Section, SectionTooLarge, render_section};
 use claim_gate::Terms;
 use faults::WriteFault;
 use fixpoint::Out;
+use remit_records::Decisions;
 use std::io::Write;
 use std::thread::{Threads, available_parallelism, join_mut};
 

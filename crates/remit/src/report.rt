@@ -7,26 +7,23 @@ ghost use Rattle.fixpoint.specs.Out.{has_failed, writer_of};
 ghost use Rattle.journal.specs.Events.{accepted_count};
 ghost use Rattle.intake_csv.specs.RowSummary.{IsSummaryOf};
 ghost use Rattle.intake_csv.specs.declared.rows.Row.{Row as AnyRow};
-ghost use Rattle.remit.specs.RecordWriter.{IsUnused, Writes, at, gathered_of};
-ghost use Rattle.remit.specs.Looked.{looked_up};
+ghost use Rattle.remit_records.specs.RecordWriter.{IsUnused, Writes, at, gathered_of};
+ghost use Rattle.remit_records.specs.Looked.{looked_up};
 ghost use Rattle.remit.specs.Sections.{MayBePart, WritesSection};
-ghost use Rattle.remit.specs.Records.{header_fields, record_of, total_fields};
-ghost use Rattle.remit.specs.Report.{record_text};
-ghost use Rattle.remit.specs.Rows.{WritesFile, WritesLeft};
-ghost use Rattle.remit.specs.Writing.{WritesFront, WritesReport};
+ghost use Rattle.remit_records.specs.Records.{header_fields, record_of, total_fields};
+ghost use Rattle.remit_records.specs.Report.{record_text};
+ghost use Rattle.remit_records.specs.Rows.{WritesFile, WritesLeft};
+ghost use Rattle.remit_records.specs.Writing.{WritesFront, WritesReport};
 ghost use Rattle.faults.specs.declared.write_fault.WriteCause.TheVariants.{Device, OutOfMemory};
 
 use crate::by_threads::write_files_by_threads;
-use crate::decisions::Decisions;
-use crate::record::{push_header, push_row, push_total};
-use crate::record_writer::RecordWriter;
 use crate::sections::{Section, SectionTooLarge, skip_rows};
-use crate::sums::Sums;
 use claim_gate::{Batch, Terms};
 use faults::{WriteCause, WriteFault};
 use fixpoint::Out;
 use intake_csv::{CsvRecord, RowSummary, Rows};
 use journal::Event;
+use remit_records::{Decisions, RecordWriter, Sums, push_header, push_row, push_total};
 use std::alloc::{AllocError, Global};
 use std::io::Write;
 use std::thread::Threads;
@@ -134,9 +131,9 @@ fn write_by<H: Rendering, W: Write>(
 trait Rendering {
     ghost use Rattle.std.specs.Prelude.{◌≡◌, ◌≤◌, length};
     ghost use Rattle.fixpoint.specs.Out.{has_failed, writer_of};
-    ghost use Rattle.remit.specs.RecordWriter.{at};
-    ghost use Rattle.remit.specs.Looked.{looked_up};
-    ghost use Rattle.remit.specs.Rows.{WritesFiles};
+    ghost use Rattle.remit_records.specs.RecordWriter.{at};
+    ghost use Rattle.remit_records.specs.Looked.{looked_up};
+    ghost use Rattle.remit_records.specs.Rows.{WritesFiles};
 
     // What the writing requires of the type parameters of an implementation.
     ghost is_ready: { Self → Type 0 };

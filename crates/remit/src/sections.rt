@@ -1,15 +1,15 @@
 //! The sections of the providers' files in the remittance, which threads render into memory while
 //! another thread writes the sections before them.
 ghost use Rattle.std.specs.Prelude.{◌≡◌, ◌≤◌, ◌+◌, ◌-◌, ◌*◌, ◌^◌, [], get_or, length, min, option_map, OnOk};
-ghost use Rattle.remit.specs.Looked.{looked_up};
-ghost use Rattle.remit.specs.Rows.{Skips};
+ghost use Rattle.remit_records.specs.Looked.{looked_up};
+ghost use Rattle.remit_records.specs.Rows.{Skips};
 ghost use Rattle.remit.specs.Sections.{AreCut, MayBePart, whole_file};
 
-use crate::decisions::Decisions;
 use crate::report::Report;
 use claim_gate::Terms;
 use fixpoint::{BoundedBuffer, Out};
 use intake_csv::{CsvRecord, Rows};
+use remit_records::Decisions;
 use std::alloc::{AllocError, Global};
 
 /// Consecutive rows of a provider's file.

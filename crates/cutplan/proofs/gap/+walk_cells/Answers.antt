@@ -7,7 +7,7 @@ use Rattle.cutplan.specs.CompiledColumns.{regions_kept, AreMasked}
 use Rattle.cutplan.specs.Masks.{rules_in, is_marked, AreMasks, HasOnlyFirst, Marks}
 use Rattle.cutplan.specs.CheckSteps.{uncovered}
 use Rattle.cutplan.specs.Places.{places}
-use Rattle.cutplan.specs.declared.region.Region.TheVariants.{Every}
+use Rattle.regions.specs.declared.region.Region.TheVariants.{Every}
 use Rattle.cutplan.proofs.Meeting.{alive_are, alive_rules, mask_here, masks_long, no_columns}
 use Rattle.cutplan.proofs.Places.{cells_more, cells_with, cells_within, end_count, end_places, got_alike, places_more}
 use Rattle.cutplan.proofs.gap.+walk_cells.Goals as goal

@@ -4,7 +4,7 @@ use Rattle.std.specs.Prelude.{true}
 use Rattle.std.specs.Option.{option_map_or}
 use Rattle.cutplan.specs.Check.{cells}
 use Rattle.cutplan.specs.Places.{ArePlaces, is_gap}
-use Rattle.cutplan.specs.Regions.{table_regions}
+use Rattle.regions.specs.Regions.{table_regions}
 use Rattle.cutplan.proofs.ByMasks.{got_at}
 use Rattle.cutplan.proofs.table_check.check_table.Goals as goal
 

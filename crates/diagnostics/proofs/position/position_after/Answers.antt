@@ -1,5 +1,5 @@
 use Rattle.std.proofs.Common.{arith}
-use Rattle.diagnostics.proofs.Positions.{byte_begins, byte_ends_line, byte_goes_on}
+use Rattle.diagnostics.proofs.Counting.{byte_begins, byte_ends_line, byte_goes_on}
 use Rattle.diagnostics.proofs.position.position_after.Goals as goal
 use Rattle.diagnostics.proofs.position.position_after.Goals.{then-byte-eq10, else-byte-eq10+then-byte, else-byte-eq10+else-byte}
 

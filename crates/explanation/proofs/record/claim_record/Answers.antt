@@ -1,7 +1,7 @@
 use Rattle.std.proofs.Common.{[], option_map}
 use Rattle.std.proofs.lemmas.Result.{IfOk-weaker}
-use Rattle.remit.specs.Report.{report_style}
-use Rattle.remit.proofs.Pushing.{both-pushed}
+use Rattle.remit_records.specs.Report.{report_style}
+use Rattle.remit_records.proofs.Pushing.{both-pushed}
 use Rattle.explanation.specs.Steps.{claim_record}
 use Rattle.explanation.proofs.record.claim_record.Goals as goal
 

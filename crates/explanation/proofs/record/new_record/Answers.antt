@@ -1,4 +1,4 @@
-use Rattle.remit.proofs.Holding.{none-rendered}
+use Rattle.remit_records.proofs.Holding.{none-rendered}
 use Rattle.explanation.proofs.record.new_record.Goals as goal
 
 pub returns : goal.returns

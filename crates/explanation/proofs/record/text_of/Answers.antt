@@ -1,5 +1,5 @@
 use Rattle.std.proofs.Common.{[]}
-use Rattle.remit.specs.Report.{report_style}
+use Rattle.remit_records.specs.Report.{report_style}
 use Rattle.explanation.proofs.Records.{text-ended}
 use Rattle.explanation.proofs.record.text_of.Goals as goal
 

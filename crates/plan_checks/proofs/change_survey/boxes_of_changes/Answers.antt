@@ -1,8 +1,8 @@
 use Rattle.std.proofs.Common.{◌∙◌, ap}
 use Rattle.std.proofs.lemmas.Result.{IfOk-weaker}
-use Rattle.plan_checks.specs.Boxes.{AreBoxesOf}
-use Rattle.plan_checks.specs.Changes.{ChangesIn, HasChange, says_by}
-use Rattle.plan_checks.specs.Joint.{by_places}
+use Rattle.plan_zones.specs.Boxes.{AreBoxesOf}
+use Rattle.plan_zones.specs.Changes.{ChangesIn, HasChange, says_by}
+use Rattle.plan_zones.specs.Joint.{by_places}
 use Rattle.plan_checks.proofs.Changing.{boxes_by}
 use Rattle.plan_checks.proofs.change_survey.boxes_of_changes.Goals as goal
 

@@ -1,6 +1,6 @@
 use Rattle.std.proofs.Common.{◌++◌, ◌∷◌, [], ap, sym, ◌∙◌, arith}
 use Rattle.std.proofs.lemmas.Grind.{common_steps}
-use Rattle.plan_checks.proofs.JointLists.{chosen_more, skipped_more}
+use Rattle.plan_zones.proofs.JointLists.{chosen_more, skipped_more}
 use Rattle.plan_checks.proofs.change_survey.regions_at.Goals as goal
 use Rattle.plan_checks.proofs.change_survey.regions_at.Goals.{in-Some+in_ok-copies_of+in_ok-push, in_default}
 

@@ -1,9 +1,9 @@
 use Rattle.std.proofs.Common.{◌∙◌, ap, arith}
 use Rattle.std.proofs.lemmas.Grind.{common_steps}
-use Rattle.plan_checks.specs.Changes.{plans_of}
-use Rattle.plan_checks.specs.Joint.{joint_regions}
+use Rattle.plan_zones.specs.Changes.{plans_of}
+use Rattle.plan_zones.specs.Joint.{joint_regions}
 use Rattle.plan_checks.proofs.Changing.{have_changes, boxes_of_plans, differ_exactly, hold_joint_values}
-use Rattle.plan_checks.proofs.Joined.{refused_on}
+use Rattle.plan_zones.proofs.Joined.{refused_on}
 use Rattle.plan_checks.proofs.changes.plan_changes.Goals as goal
 
 pub returns-clause-exact : goal.returns-clause-exact

@@ -1,5 +1,5 @@
 use Rattle.std.proofs.Common.{◌≡◌, filter, not, take}
-use Rattle.plan_checks.specs.Runs.{is_giving}
+use Rattle.plan_zones.specs.Runs.{is_giving}
 use Rattle.plan_checks.proofs.dead.leave_rules.Given as goal
 
 abbrev pub invariant-loop-place : goal.invariant-loop-place

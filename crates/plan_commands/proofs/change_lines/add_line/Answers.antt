@@ -2,7 +2,7 @@ use Rattle.std.proofs.Common.{◌≡◌, ◌<◌, ◌++◌, ◌∷◌, ◌∙◌
 use Rattle.std.proofs.lemmas.Grind.{common_steps}
 use Rattle.std.proofs.lemmas.Option.{same_Some, slice_get-get_or}
 use Rattle.std.proofs.lemmas.Result.{on_ok_weaker}
-use Rattle.plan_checks.specs.Boxes.{IsInside}
+use Rattle.plan_zones.specs.Boxes.{IsInside}
 use Rattle.plan_commands.specs.ChangeLines.{HavePart}
 use Rattle.plan_commands.specs.declared.change_lines.Line.{Line}
 use Rattle.plan_commands.proofs.Parts.{line_added, line_extended}

@@ -1,6 +1,6 @@
 use Rattle.std.proofs.Common.{rules}
 use Rattle.std.proofs.lemmas.Result.{IfOk-weaker}
-use Rattle.plan_checks.specs.declared.comparing.Comparing.{Comparing}
+use Rattle.plan_zones.specs.declared.comparing.Comparing.{Comparing}
 use Rattle.plan_commands.specs.Comparing.{IsAsked}
 use Rattle.plan_commands.proofs.compare_report.report_on.Goals as goal
 

@@ -1,8 +1,8 @@
 use Rattle.std.proofs.Common.{refl, arith}
 use Rattle.std.proofs.lemmas.Grind.{common_steps}
 use Rattle.evaluation.specs.declared.stop.ValueStop.TheVariants.{NoMemory}
-use Rattle.plan_checks.specs.declared.rows_stop.RowsStop.TheVariants.{Value}
-use Rattle.plan_checks.specs.RowsStop.{status_of}
+use Rattle.plan_rows.specs.declared.rows_stop.RowsStop.TheVariants.{Value}
+use Rattle.plan_rows.specs.RowsStop.{status_of}
 use Rattle.value_command.proofs.Ends.{placed_refused}
 use Rattle.plan_commands.proofs.RowsStatuses.{all_written, not_all_written}
 use Rattle.plan_commands.proofs.rows.rows_into.Goals as goal

@@ -1,4 +1,4 @@
-use Rattle.plan_checks.specs.RowsStop.{status_of}
+use Rattle.plan_rows.specs.RowsStop.{status_of}
 use Rattle.value_command.proofs.Ends.{ends_refused}
 use Rattle.plan_commands.proofs.RowsStatuses.{all_written, not_all_written}
 use Rattle.plan_commands.proofs.rows.rows_out.Goals as goal

@@ -1,9 +1,9 @@
 use Rattle.std.proofs.Common.{◌≡◌, [], ◌-◌, arith, get_or, sym}
 use Rattle.std.proofs.lemmas.Result.{err_from_is_err_and}
-use Rattle.remit.specs.RecordWriter.{at}
-use Rattle.remit.specs.Looked.{looked_up}
+use Rattle.remit_records.specs.RecordWriter.{at}
+use Rattle.remit_records.specs.Looked.{looked_up}
 use Rattle.remit.proofs.Cutting.{whole-written}
-use Rattle.remit.proofs.Filing.{next-written, refused-before}
+use Rattle.remit_records.proofs.Filing.{next-written, refused-before}
 use Rattle.remit.proofs.by_threads.+files.Goals as goal
 
 pub write_group-returns-then-group-eq1-clause-writes : goal.write_group-returns-then-group-eq1-clause-writes

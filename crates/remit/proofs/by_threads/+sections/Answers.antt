@@ -1,6 +1,6 @@
 use Rattle.std.proofs.lemmas.Result.{err_from_is_err_and}
-use Rattle.remit.specs.RecordWriter.{at}
-use Rattle.remit.specs.Looked.{looked_up}
+use Rattle.remit_records.specs.RecordWriter.{at}
+use Rattle.remit_records.specs.Looked.{looked_up}
 use Rattle.remit.proofs.Cutting.{cut-refused, cut-written}
 use Rattle.remit.proofs.by_threads.+sections.Goals as goal
 

@@ -1,10 +1,10 @@
 use Rattle.std.proofs.Common.{◌∙◌, [], arith, refl}
 use Rattle.std.proofs.lemmas.Grind.{common_steps}
 use Rattle.std.proofs.lemmas.Result.{err_from_is_err_and}
-use Rattle.remit.specs.RecordWriter.{at}
-use Rattle.remit.specs.Looked.{looked_up}
-use Rattle.remit.proofs.Filing.{none-read, refused-before}
-use Rattle.remit.proofs.Holding.{writes-none}
+use Rattle.remit_records.specs.RecordWriter.{at}
+use Rattle.remit_records.specs.Looked.{looked_up}
+use Rattle.remit_records.proofs.Filing.{none-read, refused-before}
+use Rattle.remit_records.proofs.Holding.{writes-none}
 use Rattle.remit.proofs.by_threads.write_files_by_threads.Goals as goal
 
 pub groups-init : goal.groups-init

@@ -1,8 +1,8 @@
 use Rattle.std.proofs.Common.{◌≡◌, ◌≤◌, ◌-◌, Ok, take}
 use Rattle.fixpoint.specs.Out.{has_failed, writer_of}
-use Rattle.remit.specs.RecordWriter.{at}
-use Rattle.remit.specs.Looked.{looked_up}
-use Rattle.remit.specs.Rows.{WritesFiles}
+use Rattle.remit_records.specs.RecordWriter.{at}
+use Rattle.remit_records.specs.Looked.{looked_up}
+use Rattle.remit_records.specs.Rows.{WritesFiles}
 use Rattle.remit.proofs.by_threads.write_files_by_threads.Given as goal
 
 -- the first `written` files are written

@@ -1,7 +1,7 @@
 use Rattle.std.proofs.Common.{[], ◌-◌, get_or, arith}
 use Rattle.std.proofs.lemmas.Grind.{common_steps}
-use Rattle.remit.specs.RecordWriter.{at}
-use Rattle.remit.specs.Looked.{looked_up}
+use Rattle.remit_records.specs.RecordWriter.{at}
+use Rattle.remit_records.specs.Looked.{looked_up}
 use Rattle.remit.proofs.Cutting.{whole-written}
 use Rattle.remit.proofs.by_threads.write_first_file.Goals as goal
 

@@ -2,8 +2,8 @@ use Rattle.std.proofs.Common.{◌≡◌, Err, None, Ok, ap, arith, length, ◌�
 use Rattle.std.proofs.lemmas.Grind.{common_steps}
 use Rattle.std.proofs.lemmas.List.{length-map}
 use Rattle.std.proofs.lemmas.Result.{err_from_is_err_and}
-use Rattle.remit.specs.RecordWriter.{at}
-use Rattle.remit.proofs.Reporting.{ends-device, ends-memory, ends-ok, ends-refused, ends-written, files-refused, files-same, finished-alike, front-alike, header-refused, none-written, refused-alike, total-refused, written-alike}
+use Rattle.remit_records.specs.RecordWriter.{at}
+use Rattle.remit_records.proofs.Reporting.{ends-device, ends-memory, ends-ok, ends-refused, ends-written, files-refused, files-same, finished-alike, front-alike, header-refused, none-written, refused-alike, total-refused, written-alike}
 use Rattle.remit.proofs.report.write_by.Goals as goal
 
 pub returns-in_default-clause-refused : goal.returns-in_default-clause-refused

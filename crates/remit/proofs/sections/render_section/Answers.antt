@@ -1,7 +1,7 @@
 use Rattle.std.proofs.Common.{◌≡◌, ◌-◌, [], Some, ap, false, get_or, is_err, sym, ◌∙◌}
 use Rattle.fixpoint.specs.Out.{held_in}
-use Rattle.remit.specs.RecordWriter.{at}
-use Rattle.remit.specs.Looked.{looked_up}
+use Rattle.remit_records.specs.RecordWriter.{at}
+use Rattle.remit_records.specs.Looked.{looked_up}
 use Rattle.remit.proofs.Parting.{part-made}
 use Rattle.remit.proofs.sections.render_section.Goals as goal
 

@@ -1,7 +1,7 @@
 use Rattle.std.proofs.Common.{arith}
 use Rattle.std.proofs.lemmas.Grind.{common_steps}
 use Rattle.remit.proofs.Limiting.{skipped-next}
-use Rattle.remit.proofs.RowSummaries.{reported}
+use Rattle.remit_records.proofs.RowSummaries.{reported}
 use Rattle.remit.proofs.sections.skip_rows.Goals as goal
 
 pub loop-preserved : goal.loop-preserved

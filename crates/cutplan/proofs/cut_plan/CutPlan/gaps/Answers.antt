@@ -4,7 +4,7 @@ use Rattle.std.specs.Option.{option_map_or}
 use Rattle.std.specs.Result.{IfErr}
 use Rattle.cutplan.specs.Check.{cells, covers, gaps}
 use Rattle.cutplan.specs.Numbered.{cell_limit, IsWide}
-use Rattle.cutplan.specs.Regions.{table_regions}
+use Rattle.regions.specs.Regions.{table_regions}
 use Rattle.cutplan.proofs.Compiling.{kept_masked, kept_regions}
 use Rattle.cutplan.proofs.cut_plan.CutPlan.gaps.Goals as goal
 

@@ -1,8 +1,8 @@
 use Rattle.std.proofs.Common.{◌≡◌, ℕ, ◌++◌, ◌∷◌, [], List, length, sym, subst, ◌∙◌, arith}
 use Rattle.std.proofs.lemmas.Result.{on_ok_weaker}
 use Rattle.plan_checks.specs.Leaving.{Begins, BeginsBelow, IsLeft}
-use Rattle.plan_checks.specs.Runs.{gives_in, meets_in}
-use Rattle.plan_checks.specs.Zones.{class_of}
+use Rattle.plan_zones.specs.Runs.{gives_in, meets_in}
+use Rattle.plan_zones.specs.Zones.{class_of}
 use Rattle.plan_checks.proofs.Leaving.{left_all, left_more, left_regions, left_zone, no_names}
 use Rattle.plan_checks.proofs.dead.Zones.+leave.Goals as goal
 

@@ -1,7 +1,7 @@
 use Rattle.std.proofs.Common.{length}
 use Rattle.plan_checks.specs.Leaving.{BeginsBelow, IsLeft}
-use Rattle.plan_checks.specs.Runs.{gives_in, meets_in}
-use Rattle.plan_checks.specs.Zones.{class_of}
+use Rattle.plan_zones.specs.Runs.{gives_in, meets_in}
+use Rattle.plan_zones.specs.Zones.{class_of}
 use Rattle.plan_checks.proofs.dead.Zones.+leave.Given as goal
 
 abbrev pub decreases-leave : goal.decreases-leave

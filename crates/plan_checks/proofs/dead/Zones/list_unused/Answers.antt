@@ -1,9 +1,9 @@
 use Rattle.std.proofs.Common.{ℕ, [], List, ap, subst, ◌∙◌}
 use Rattle.std.specs.List.{flat_map}
 use Rattle.plan_checks.specs.Leaving.{Begins, IsLeft}
-use Rattle.plan_checks.specs.RulePlaces.{rule_tests}
-use Rattle.plan_checks.specs.Runs.{gives_in, meets_in}
-use Rattle.plan_checks.specs.Zones.{class_of}
+use Rattle.plan_zones.specs.RulePlaces.{rule_tests}
+use Rattle.plan_zones.specs.Runs.{gives_in, meets_in}
+use Rattle.plan_zones.specs.Zones.{class_of}
 use Rattle.plan_checks.proofs.dead.Zones.list_unused.Goals as goal
 
 pub returns-clause-rules : goal.returns-clause-rules

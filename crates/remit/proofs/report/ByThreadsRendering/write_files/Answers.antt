@@ -1,7 +1,7 @@
 use Rattle.std.proofs.Common.{arith}
-use Rattle.remit.specs.RecordWriter.{at}
-use Rattle.remit.specs.Looked.{looked_up}
-use Rattle.remit.proofs.Filing.{all-written}
+use Rattle.remit_records.specs.RecordWriter.{at}
+use Rattle.remit_records.specs.Looked.{looked_up}
+use Rattle.remit_records.proofs.Filing.{all-written}
 use Rattle.remit.proofs.report.ByThreadsRendering.write_files.Goals as goal
 
 pub write_files_by_threads-requires-clause-most : goal.write_files_by_threads-requires-clause-most

@@ -1,9 +1,9 @@
 use Rattle.std.proofs.Common.{◌<◌, refl, ◌∙◌, subst, arith}
 use Rattle.std.proofs.lemmas.Grind.{common_steps}
 use Rattle.std.proofs.lemmas.Result.{err_from_is_err_and}
-use Rattle.remit.specs.RecordWriter.{at}
-use Rattle.remit.specs.Looked.{looked_up}
-use Rattle.remit.proofs.Filing.{files-next, files-none, files-refused}
+use Rattle.remit_records.specs.RecordWriter.{at}
+use Rattle.remit_records.specs.Looked.{looked_up}
+use Rattle.remit_records.proofs.Filing.{files-next, files-none, files-refused}
 use Rattle.remit.proofs.report.InTurnRendering.write_files.Goals as goal
 
 pub loop-place-init : goal.loop-place-init

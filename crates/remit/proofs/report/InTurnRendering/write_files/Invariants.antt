@@ -1,8 +1,8 @@
 use Rattle.std.proofs.Common.{◌≡◌}
 use Rattle.fixpoint.specs.Out.{has_failed, writer_of}
-use Rattle.remit.specs.RecordWriter.{at}
-use Rattle.remit.specs.Looked.{looked_up}
-use Rattle.remit.proofs.Filing.{FilesSoFar}
+use Rattle.remit_records.specs.RecordWriter.{at}
+use Rattle.remit_records.specs.Looked.{looked_up}
+use Rattle.remit_records.proofs.Filing.{FilesSoFar}
 use Rattle.remit.proofs.report.InTurnRendering.write_files.Given as goal
 
 -- the files so far are written

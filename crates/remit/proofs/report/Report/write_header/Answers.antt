@@ -1,8 +1,8 @@
 use Rattle.std.proofs.Common.{◌≡◌, ◌∙◌, ap, false, is_err, refl}
 use Rattle.tables.specs.Plan.{PlanParts}
-use Rattle.remit.specs.Records.{header_fields}
-use Rattle.remit.specs.Report.{record_text}
-use Rattle.remit.proofs.Holding.{no-memory, on-ok}
+use Rattle.remit_records.specs.Records.{header_fields}
+use Rattle.remit_records.specs.Report.{record_text}
+use Rattle.remit_records.proofs.Holding.{no-memory, on-ok}
 use Rattle.remit.proofs.report.Report.write_header.Goals as goal
 
 pub returns-then-is_err-clause-writes : goal.returns-then-is_err-clause-writes

@@ -1,6 +1,6 @@
 use Rattle.std.proofs.Common.{rules, ◌-◌, [], get_or}
-use Rattle.remit.specs.RecordWriter.{at}
-use Rattle.remit.specs.Looked.{looked_up}
+use Rattle.remit_records.specs.RecordWriter.{at}
+use Rattle.remit_records.specs.Looked.{looked_up}
 use Rattle.remit.proofs.Parting.{part-written}
 use Rattle.remit.proofs.report.Report.write_part.Goals as goal
 

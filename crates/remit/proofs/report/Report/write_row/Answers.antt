@@ -1,8 +1,8 @@
 use Rattle.std.proofs.Common.{◌≡◌, false, is_err, refl}
-use Rattle.remit.specs.Looked.{looked_up}
-use Rattle.remit.specs.Records.{record_of}
-use Rattle.remit.specs.Report.{record_text}
-use Rattle.remit.proofs.Holding.{no-memory, on-ok}
+use Rattle.remit_records.specs.Looked.{looked_up}
+use Rattle.remit_records.specs.Records.{record_of}
+use Rattle.remit_records.specs.Report.{record_text}
+use Rattle.remit_records.proofs.Holding.{no-memory, on-ok}
 use Rattle.remit.proofs.report.Report.write_row.Goals as goal
 
 pub returns-then-is_err-clause-writes : goal.returns-then-is_err-clause-writes

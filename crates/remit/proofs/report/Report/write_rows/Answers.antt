@@ -1,10 +1,10 @@
 use Rattle.std.proofs.Common.{refl, ◌∙◌, arith}
 use Rattle.std.proofs.lemmas.Grind.{common_steps}
 use Rattle.std.proofs.lemmas.Result.{err_from_is_err_and}
-use Rattle.remit.specs.RecordWriter.{at}
-use Rattle.remit.specs.Looked.{looked_up}
+use Rattle.remit_records.specs.RecordWriter.{at}
+use Rattle.remit_records.specs.Looked.{looked_up}
 use Rattle.remit.proofs.Limiting.{rows-done, rows-full, rows-next, rows-no-memory, rows-none, rows-refused}
-use Rattle.remit.proofs.RowSummaries.{nothing, reported}
+use Rattle.remit_records.proofs.RowSummaries.{nothing, reported}
 use Rattle.remit.proofs.report.Report.write_rows.Goals as goal
 
 pub loop-left-init : goal.loop-left-init

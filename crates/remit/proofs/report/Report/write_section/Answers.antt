@@ -1,8 +1,8 @@
 use Rattle.std.proofs.Common.{◌≡◌, [], ◌-◌, false, get_or, is_err, arith}
 use Rattle.std.proofs.lemmas.Grind.{common_steps}
-use Rattle.remit.specs.Looked.{looked_up}
+use Rattle.remit_records.specs.Looked.{looked_up}
 use Rattle.remit.proofs.Cutting.{of-skipped, section-no-memory}
-use Rattle.remit.proofs.Holding.{on-ok}
+use Rattle.remit_records.proofs.Holding.{on-ok}
 use Rattle.remit.proofs.report.Report.write_section.Goals as goal
 
 pub returns-in_default-clause-writes : goal.returns-in_default-clause-writes

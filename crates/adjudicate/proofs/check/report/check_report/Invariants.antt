@@ -1,5 +1,0 @@
-use Rattle.adjudicate.specs.CheckReport.{IsReportedOfFirst}
-use Rattle.adjudicate.proofs.check.report.check_report.Given as goal
-
-abbrev pub invariant-loop-place : goal.invariant-loop-place
-invariant-loop-place l = IsReportedOfFirst l.findings l.plan l.place l.reported

@@ -1,6 +1,0 @@
-use Rattle.std.proofs.Common.{◌≡◌, map, take}
-use Rattle.adjudicate.specs.CheckReport.{marked_region}
-use Rattle.adjudicate.proofs.check.report.region_texts.Given as goal
-
-abbrev pub invariant-loop-region : goal.invariant-loop-region
-invariant-loop-region l = l.texts ≡ map (marked_region l.mark) (take l.region-index l.regions)

@@ -1,0 +1,5 @@
+pub mod Piecewise
+pub mod Refusals
+pub mod Spelled
+pub mod TableLines
+pub mod ReportLines

@@ -1,0 +1,4 @@
+pub mod CheckReport
+pub mod CheckText
+pub mod ErrorsText
+pub mod Findings

@@ -1,9 +1,0 @@
-use Rattle.std.proofs.Common.{arith}
-use Rattle.std.proofs.lemmas.Grind.{common_steps}
-use Rattle.cutplan.proofs.regions_from_cuts.from_cut.Goals as goal
-
-pub returns : goal.returns
-returns c = grind (arith, common_steps)
-
-pub loop-high-preserved : goal.loop-high-preserved
-loop-high-preserved c = grind (arith, common_steps)

@@ -1,5 +1,0 @@
-use Rattle.std.proofs.Common.{rules}
-use Rattle.cutplan.proofs.regions_from_cuts.has_value.Goals as goal
-
-pub returns-in-Between : goal.returns-in-Between
-returns-in-Between c = search rules

@@ -1,6 +1,0 @@
-use Rattle.std.proofs.Common.{arith}
-use Rattle.std.proofs.lemmas.Grind.{common_steps}
-use Rattle.plan_checks.proofs.columns.place_of.Goals as goal
-
-pub position-requires-clause-fits : goal.position-requires-clause-fits
-position-requires-clause-fits c = grind (arith, common_steps)

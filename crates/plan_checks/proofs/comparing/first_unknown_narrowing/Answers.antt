@@ -1,6 +1,0 @@
-use Rattle.std.proofs.Common.{arith}
-use Rattle.std.proofs.lemmas.Grind.{common_steps}
-use Rattle.plan_checks.proofs.comparing.first_unknown_narrowing.Goals as goal
-
-pub position-requires-clause-fits : goal.position-requires-clause-fits
-position-requires-clause-fits c = grind (arith, common_steps)

@@ -1,6 +1,0 @@
-use Rattle.plan_checks.proofs.Claims.{AreFieldsSoFar}
-use Rattle.plan_checks.proofs.filing.fields_at.Given as goal
-
--- the values so far
-abbrev pub invariant-loop-index : goal.invariant-loop-index
-invariant-loop-index l = AreFieldsSoFar l.given l.first l.index l.inputs l.fields

@@ -1,7 +1,0 @@
-use Rattle.std.proofs.Common.{◌≡◌, map}
-use Rattle.std.specs.List.{range_with_len}
-use Rattle.plan_checks.specs.Zones.{regions_at}
-use Rattle.plan_checks.proofs.zone_regions.plan_regions.Given as goal
-
-abbrev pub invariant-loop-name : goal.invariant-loop-name
-invariant-loop-name l = l.regions ≡ map (regions_at l.plan) (range_with_len 0 l.name)

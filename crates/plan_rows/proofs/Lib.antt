@@ -1,0 +1,15 @@
+pub mod Statuses
+pub mod Reading
+pub mod RowLists
+pub mod HeaderColumns
+pub mod Givens
+pub mod RowValues
+pub mod Claims
+pub mod Readings
+pub mod Rows
+pub mod Refusals
+pub mod RowRefusals
+pub mod RowHeader
+pub mod RowRecords
+pub mod Sheets
+pub mod RowTexts

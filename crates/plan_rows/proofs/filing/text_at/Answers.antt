@@ -1,0 +1,9 @@
+use Rattle.std.proofs.Common.{arith}
+use Rattle.std.proofs.lemmas.Grind.{common_steps}
+use Rattle.plan_rows.proofs.filing.text_at.Goals as goal
+
+pub returns-in-Some-Text : goal.returns-in-Some-Text
+returns-in-Some-Text c = grind (arith, common_steps)
+
+pub returns-in_default : goal.returns-in_default
+returns-in_default c = grind (arith, common_steps)

@@ -1,0 +1,12 @@
+use Rattle.std.proofs.Common.{arith}
+use Rattle.std.proofs.lemmas.Grind.{common_steps}
+use Rattle.plan_rows.proofs.readable.kind_among.Goals as goal
+
+pub returns-then-eq : goal.returns-then-eq
+returns-then-eq c = grind (arith, common_steps)
+
+pub loop-output-preserved : goal.loop-output-preserved
+loop-output-preserved c = grind (arith, common_steps)
+
+pub returns : goal.returns
+returns c = grind (arith, common_steps)

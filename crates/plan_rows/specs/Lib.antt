@@ -1,0 +1,16 @@
+pub mod Reading
+pub mod Parts
+pub mod Filing
+pub mod Columns
+pub mod Given
+pub mod Expected
+pub mod Readable
+pub mod Lines
+pub mod Report
+pub mod Stop
+pub mod Sheet
+pub mod RowColumns
+pub mod ValuedRows
+pub mod Placed
+pub mod WrittenRows
+pub mod RowsStop

@@ -1,0 +1,10 @@
+pub mod Lists
+pub mod Joining
+pub mod Evaluating
+pub mod JointLists
+pub mod Benefits
+pub mod Parts
+pub mod SameTerms
+pub mod Joined
+pub mod Asking
+pub mod PlaceLists

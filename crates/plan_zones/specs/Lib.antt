@@ -1,0 +1,11 @@
+pub mod Amounts
+pub mod Zones
+pub mod Boxes
+pub mod Determined
+pub mod Terms
+pub mod Joint
+pub mod Changes
+pub mod RulePlaces
+pub mod Giving
+pub mod Runs
+pub mod Running

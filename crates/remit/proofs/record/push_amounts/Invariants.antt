@@ -1,9 +1,0 @@
-use Rattle.std.proofs.Common.{map, take}
-use Rattle.fixpoint.specs.Money.{money_text}
-use Rattle.remit.specs.Amounts.{amount_of}
-use Rattle.remit.specs.Fields.{Pushes}
-use Rattle.remit.proofs.record.push_amounts.Given as goal
-
--- the fields so far are appended to the record
-abbrev pub invariant-loop-amount : goal.invariant-loop-amount
-invariant-loop-amount l = Pushes l.initial.line l.line (map (λ amount. money_text (amount_of amount l.decision)) (take l.amount-index l.amounts))

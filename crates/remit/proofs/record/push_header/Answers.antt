@@ -1,6 +1,0 @@
-use Rattle.remit.proofs.Pushing.{both-pushed-ok}
-use Rattle.remit.proofs.record.push_header.Goals as goal
-
-pub returns : goal.returns
-returns c =
-    both-pushed-ok _ _ _ _ _ _ c.in_ok-push_front_names.ensures (both-pushed-ok _ _ _ _ _ _ c.in_ok-push_names.ensures c.push_field.ensures)

@@ -1,0 +1,9 @@
+use Rattle.std.proofs.Common.{arith}
+use Rattle.std.proofs.lemmas.Grind.{common_steps}
+use Rattle.remit_records.proofs.record.push_sums.Goals as goal
+
+pub returns : goal.returns
+returns c = grind (arith, common_steps)
+
+pub loop-sum-preserved : goal.loop-sum-preserved
+loop-sum-preserved c = grind (arith, common_steps)

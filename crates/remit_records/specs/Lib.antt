@@ -1,0 +1,11 @@
+pub mod Amounts
+pub mod Decided
+pub mod FieldTexts
+pub mod Fields
+pub mod Records
+pub mod Report
+pub mod Writing
+pub mod RecordWriter
+pub mod Looked
+pub mod Rows
+pub mod Counts

@@ -1,0 +1,11 @@
+pub mod Totals
+pub mod Sorted
+pub mod Adding
+pub mod Walking
+pub mod NotesWalking
+pub mod Reordered
+pub mod Accepted
+pub mod Closes
+pub mod CarryingOn
+pub mod Rendering
+pub mod ReadingBack
