@@ -13,11 +13,11 @@ pub struct Advice<'d> {
 }
 
 impl<'d> Advice<'d> {
-    /// An explanation without values.
-    pub fn of(words: Explanation) -> Advice<'d> {
+    /// A cause and a fix that have this word.
+    pub fn about(cause: &'static str, fix: &'static str, word: &'d str) -> Advice<'d> {
         Advice {
-            words,
-            values: [Part::Word(""); VALUES_LIMIT],
+            words: Explanation::new(cause, fix),
+            values: [Part::Word(word); VALUES_LIMIT],
         }
     }
 

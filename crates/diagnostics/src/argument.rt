@@ -73,6 +73,6 @@ fn literal_advice<'a>(
         }
         return advice;
     }
-    let words = cell_explanation(fault.cause);
-    Advice::of(Explanation::new(words.cause, argument_with_bad_literal().fix))
+    let cause = cell_explanation(fault.cause).cause;
+    Advice::about(cause, argument_with_bad_literal().fix, "")
 }

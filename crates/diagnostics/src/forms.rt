@@ -192,10 +192,16 @@ impl<'t> Subject<'t> {
         }
     }
 
+    // In a pattern `U` stands for a text.
     fn pattern_end(self, pattern: &[u8], at: usize) -> Option<usize> {
         let mut end = at;
         for part in pattern {
-            end = self.byte_end(*part, end)?;
+            let next = match part {
+                b' ' => Some(self.run_end(b' ', end)),
+                b'U' => self.text_end(end),
+                _ => self.byte_end(*part, end),
+            };
+            end = next?;
         }
         Some(end)
     }
@@ -216,7 +222,7 @@ impl<'t> Subject<'t> {
                 Some(end) => Some(end),
                 None => self.word_end(b"false", at),
             },
-            Kind::Day => self.day_end(at),
+            Kind::Day => self.pattern_end(b" ( U )", self.word_end(b"date", at)?),
         }
     }
 
@@ -243,13 +249,6 @@ impl<'t> Subject<'t> {
             }
         }
         None
-    }
-
-    fn day_end(self, at: usize) -> Option<usize> {
-        let word = self.word_end(b"date", at)?;
-        let open = self.byte_end(b'(', self.run_end(b' ', word))?;
-        let inside = self.text_end(self.run_end(b' ', open))?;
-        self.byte_end(b')', self.run_end(b' ', inside))
     }
 }
 

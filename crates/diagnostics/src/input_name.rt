@@ -3,7 +3,7 @@
 use crate::advice::Advice;
 use crate::edits::is_one_edit;
 use crate::message::Part;
-use crate::plan_node::{items_after, single_values, tables, text_after, text_at, version_of};
+use crate::plan_node::{entry_of_name, items_after, single_values, tables, text_after, version_of};
 use crate::shape::Shape;
 use faults::names;
 use toml::Value;
@@ -22,16 +22,14 @@ pub fn unknown_input<'d>(
     if let Some(number) = table_with_output(document, name) {
         return Some(output_advice(document, name, number, table));
     }
-    let word = Part::Word(name);
     if let Some(near) = near_value(document, name, table) {
         let cause = "Unknown input `{}`; did you mean `{}`?";
         let fix = "Correct the name, or declare a field of this name.";
-        return Some(Advice::new(cause, fix, word, Part::Word(near)));
+        return Some(Advice::new(cause, fix, Part::Word(name), Part::Word(near)));
     }
     if is_of_families(document, name) {
         let cause = "`{}` is a name of plans of version 3, and this plan has an earlier version.";
-        let fix = "Set `version` to 3, or remove the input.";
-        return Some(Advice::new(cause, fix, word, word));
+        return Some(Advice::about(cause, "Set `version` to 3, or remove the input.", name));
     }
     Some(unlike_advice(document, name))
 }
@@ -46,10 +44,8 @@ pub fn is_of_families(document: &Value, name: &str) -> bool {
 pub fn table_with_output(document: &Value, name: &str) -> Option<usize> {
     let mut number = 1usize;
     for table in tables(document) {
-        for output in items_after(Some(table), "outputs") {
-            if text_after(Some(output), "name") == Some(name) {
-                return Some(number);
-            }
+        if entry_of_name(items_after(Some(table), "outputs"), name).is_some() {
+            return Some(number);
         }
         number = number.saturating_add(1);
     }
@@ -63,21 +59,20 @@ fn output_advice<'d>(
     number: usize,
     table: usize,
 ) -> Advice<'d> {
-    let word = Part::Word(name);
     if number > table {
         let cause = "`{}` is an output of table {}, which comes after this one.";
         let fix = "Move the table with the output `{}` before this one.";
-        return Advice::new(cause, fix, word, Part::Number(number));
+        return Advice::new(cause, fix, Part::Word(name), Part::Number(number));
     }
     if number == table {
         let cause = "`{}` is an output of this table.";
         let fix = "Remove the input, or use an output of an earlier table.";
-        return Advice::new(cause, fix, word, word);
+        return Advice::about(cause, fix, name);
     }
     let hit = text_after(tables(document).get(number.saturating_sub(1)), "hit").unwrap_or("");
     let cause = "`{}` is a list, since its table has the hit policy `{}`.";
     let fix = "Remove the input, or choose a hit policy with a single value for the table of `{}`.";
-    Advice::new(cause, fix, word, Part::Word(hit))
+    Advice::new(cause, fix, Part::Word(name), Part::Word(hit))
 }
 
 // Where the key `fields` is misspelt, no field is known.
@@ -85,21 +80,15 @@ fn unlike_advice<'d>(document: &'d Value, name: &'d str) -> Advice<'d> {
     if document.get("fields").is_none()
         && let Some(near) = near_key(Some(document), "fields", Shape::Plan.keys())
     {
-        let cause =
-            "Unknown input `{}`. The key `fields` is missing; the key `{}` may be a misspelling of it.";
         return Advice::new(
-            cause,
+            "Unknown input `{}`. The key `fields` is missing; the key `{}` may be a misspelling of it.",
             "Correct the name of the key.",
             Part::Word(name),
             Part::Word(near),
         );
     }
-    Advice::new(
-        "Unknown input `{}`.",
-        "Correct the name, or declare the field `{}`.",
-        Part::Word(name),
-        Part::Word(name),
-    )
+    let fix = "Correct the name, or declare the field `{}`.";
+    Advice::about("Unknown input `{}`.", fix, name)
 }
 
 /// A key of an entry that may be a misspelling of the wanted one. A known key is not one: `when` is one edit away from `then`.
@@ -108,13 +97,19 @@ pub fn near_key<'d>(
     wanted: &str,
     known: &[&'static str],
 ) -> Option<&'d str> {
-    for key in entry?.as_table()?.keys() {
-        let word = key.as_str();
-        if is_one_edit(word.as_bytes(), wanted.as_bytes()) && !known.contains(&word) {
-            return Some(word);
+    let Some(Value::Table(members)) = entry else {
+        return None;
+    };
+    for key in members.keys() {
+        if is_near(key.as_str(), wanted, known) {
+            return Some(key.as_str());
         }
     }
     None
+}
+
+fn is_near(word: &str, wanted: &str, known: &[&'static str]) -> bool {
+    is_one_edit(word.as_bytes(), wanted.as_bytes()) && !known.contains(&word)
 }
 
 // The first name that the inputs of a table may have and that is one edit away from the given one.
@@ -130,7 +125,7 @@ fn near_value<'d>(document: &'d Value, name: &str, table: usize) -> Option<&'d s
 // Any two names of one character are one edit apart, so they are not similar.
 fn near_name<'d>(entries: &'d [Value], name: &str) -> Option<&'d str> {
     for entry in entries {
-        let near = text_at(entry, &[], "name");
+        let near = text_after(Some(entry), "name").unwrap_or("");
         let is_longer = near.len() > 1 || name.len() > 1;
         if is_longer && is_one_edit(near.as_bytes(), name.as_bytes()) {
             return Some(near);

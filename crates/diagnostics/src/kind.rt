@@ -1,6 +1,6 @@
 //! The kinds of a plan's columns, by its document.
 
-use crate::plan_node::{Column, items_after, tables, text_after, text_at};
+use crate::plan_node::{entry_of_name, items_after, tables, text_after};
 use faults::names;
 use toml::Value;
 
@@ -39,23 +39,8 @@ impl Kind {
     }
 }
 
-/// The kind of a column; none if the document does not say it.
-pub fn kind_of(document: &Value, column: &Column<'_>) -> Option<Kind> {
-    if !column.is_input {
-        return Kind::of_word(column.kind);
-    }
-    kind_of_name(document, column.name)
-}
-
 /// The kind of the values of a name; none if the document does not say it.
 pub fn kind_of_name(document: &Value, name: &str) -> Option<Kind> {
-    match kind_of_own(document, name) {
-        Some(kind) => Some(kind),
-        None => kind_of_built_in(name),
-    }
-}
-
-fn kind_of_own(document: &Value, name: &str) -> Option<Kind> {
     if let Some(kind) = kind_among(items_after(Some(document), "fields"), name) {
         return Some(kind);
     }
@@ -66,17 +51,13 @@ fn kind_of_own(document: &Value, name: &str) -> Option<Kind> {
             return Some(if is_count { Kind::Number } else { kind });
         }
     }
-    None
+    kind_of_built_in(name)
 }
 
 /// The kind of the first entry with this name.
 pub fn kind_among(entries: &[Value], name: &str) -> Option<Kind> {
-    for entry in entries {
-        if text_after(Some(entry), "name") == Some(name) {
-            return Kind::of_word(text_at(entry, &[], "kind"));
-        }
-    }
-    None
+    let entry = entry_of_name(entries, name);
+    Kind::of_word(text_after(entry, "kind").unwrap_or(""))
 }
 
 /// The kind of a name that every plan may read, or a plan with families.

@@ -7,9 +7,9 @@
 //! path (`value_path.rt`), `hints.rt` says what is wrong there, and `input_name.rt` what the name of an input is. `shape.rt` has the keys of a plan
 //! and the types of their values.
 //!
-//! `forms.rt` compares a text with a form, as people write cells. `cell_rows.rt`, `cause_rows.rt` and `words.rt` are tables of such forms, each with a
-//! sentence; `row.rt` finds the first one that fits a cell, and `cell_hints.rt` makes the advice from it, by the kind of the cell's column (`kind.rt`).
-//! To mend one more mistake, add a row there, and a line to `tests/program/cells.tsv`.
+//! `forms.rt` compares a text with a form, as people write cells. `cell_rows.rt`, `cause_rows.rt` and `words.rt` are lists of sentences, each with such
+//! forms below it; `row.rt` finds the first one that fits a cell, and `cell_hints.rt` makes the advice from it, by the kind of the cell's column
+//! (`kind.rt`). To mend one more mistake, add a row there, and a line to `tests/program/cells.tsv`.
 //!
 //! `scanner.rt` finds the offset of each key and value of a TOML text with the tokens of `toml_parser`, `places.rt` has the offsets, and `position.rt`
 //! counts lines and columns. `edits.rt` finds misspellings.

@@ -14,6 +14,10 @@ const SHOWN_LIMIT_BYTES: usize = 100;
 /// What replaces the part of a text that is not shown.
 const DOTS: &str = "...";
 
+/// What is before a mark: not fewer spaces than there are bytes of a line before its mark, with the dots.
+const BLANKS: &str =
+    "                                                                                                              ";
+
 /// A value in a sentence.
 #[derive(Clone, Copy)]
 pub enum Part<'p> {
@@ -48,7 +52,9 @@ pub fn explain_at(
     words: Explanation,
 ) -> Result<Message, AllocError> {
     let mut message = Message::new(alloc);
-    let done = message.sentence_and_words(place, values, words);
+    let done = message.sentence(place, values);
+    let mut message = message.after(done)?;
+    let done = message.words(words);
     message.after(done)
 }
 
@@ -91,33 +97,24 @@ impl Message {
 
     /// Adds a line, indented by two spaces: the sentence, with the values in place of its pairs of braces.
     pub fn sentence(&mut self, sentence: &str, values: &[Part<'_>]) -> Result<(), AllocError> {
-        self.add("  ", &[])?;
-        self.add(sentence, values)?;
-        self.add("\n", &[])
+        self.line("  ", sentence, values)
     }
 
-    fn sentence_and_words(
-        &mut self,
-        sentence: &str,
-        values: &[Part<'_>],
-        words: Explanation,
-    ) -> Result<(), AllocError> {
-        self.sentence(sentence, values)?;
-        self.words(words)
+    fn line(&mut self, front: &str, sentence: &str, values: &[Part<'_>]) -> Result<(), AllocError> {
+        self.text.push_str(front)?;
+        self.add(sentence, values)?;
+        self.text.push_str("\n")
     }
 
     /// Adds the cause and the fix.
     pub fn words(&mut self, words: Explanation) -> Result<(), AllocError> {
-        self.advice(&Advice::of(words))
+        self.advice(&Advice::about(words.cause, words.fix, ""))
     }
 
     /// Adds the cause and the fix with their values.
     pub fn advice(&mut self, advice: &Advice<'_>) -> Result<(), AllocError> {
-        self.add("  Cause: ", &[])?;
-        self.add(advice.words.cause, &advice.values)?;
-        self.add("\n  Fix: ", &[])?;
-        self.add(advice.words.fix, &advice.values)?;
-        self.add("\n", &[])
+        self.line("  Cause: ", advice.words.cause, &advice.values)?;
+        self.line("  Fix: ", advice.words.fix, &advice.values)
     }
 
     /// Appends a part of a line, with the values in place of its pairs of braces. Values without a pair are left out.
@@ -184,19 +181,20 @@ impl Message {
         let shown = line.get(begin..end).unwrap_or("");
         let front = dots_if(begin > 0);
         let back = dots_if(end < line.len());
-        let values = [Part::Word(front), Part::Word(shown), Part::Word(back)];
-        self.sentence("    {}{}{}", &values)?;
-        let before = characters_before(shown, at.saturating_sub(begin));
-        self.mark_below(front.len().saturating_add(before))
+        self.sentence(
+            "    {}{}{}",
+            &[Part::Word(front), Part::Word(shown), Part::Word(back)],
+        )?;
+        self.mark_below(front, shown, at.saturating_sub(begin))
     }
 
-    // Adds a mark below the character that has this number of characters before it.
-    fn mark_below(&mut self, before: usize) -> Result<(), AllocError> {
-        self.text.push_str("      ")?;
-        for _ in 0..before {
-            self.text.push(' ')?;
-        }
-        self.text.push_str("^\n")
+    // Adds a mark below the character at a byte of what is shown after the front. Columns count characters, so that the mark is below the right one.
+    fn mark_below(&mut self, front: &str, shown: &str, at: usize) -> Result<(), AllocError> {
+        let before = position_of(shown.as_bytes(), at).column.saturating_sub(1);
+        let blanks = BLANKS
+            .get(..front.len().saturating_add(before))
+            .unwrap_or("");
+        self.sentence("    {}^", &[Part::Word(blanks)])
     }
 }
 
@@ -209,18 +207,4 @@ pub fn shown_front(word: &str) -> &str {
 /// What replaces the rest of a text, if it is cut.
 pub fn dots_if(is_cut: bool) -> &'static str {
     if is_cut { DOTS } else { "" }
-}
-
-// Counts characters and not bytes, so that the mark is below the right one.
-fn characters_before(line: &str, at: usize) -> usize {
-    let mut count = 0usize;
-    let mut place = 0usize;
-    for character in line.chars() {
-        if place >= at {
-            break;
-        }
-        place = place.saturating_add(character.len_utf8());
-        count = count.saturating_add(1);
-    }
-    count
 }

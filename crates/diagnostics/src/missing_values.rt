@@ -3,7 +3,7 @@
 use crate::input_name::is_of_families;
 use crate::kind::{Kind, kind_of_name};
 use crate::message::{Message, Part};
-use crate::plan_node::{document_of, items_after, tables, text_after, text_at};
+use crate::plan_node::{document_of, entry_of_name, items_after, tables, text_at};
 use crate::system_texts::missing_value;
 use faults::names;
 use std::alloc::{AllocError, Global};
@@ -79,27 +79,22 @@ fn add_name(
         && is_read(document, name)
         && !is_given(arguments, name)
     {
+        let sentence = match kind {
+            Kind::Number => "`{}` needs a number, such as {}=12.5",
+            Kind::Text => "`{}` needs a text, such as '{}=\"A\"'",
+            Kind::Flag => "`{}` needs a flag, such as {}=true",
+            Kind::Day => "`{}` needs a day, such as '{}=date(\"2024-02-29\")'",
+        };
         let word = Part::Word(name);
-        return message.sentence(argument_of_kind(kind), &[word, word]);
+        return message.sentence(sentence, &[word, word]);
     }
     Ok(())
 }
 
-fn argument_of_kind(kind: Kind) -> &'static str {
-    match kind {
-        Kind::Number => "`{}` needs a number, such as {}=12.5",
-        Kind::Text => "`{}` needs a text, such as '{}=\"A\"'",
-        Kind::Flag => "`{}` needs a flag, such as {}=true",
-        Kind::Day => "`{}` needs a day, such as '{}=date(\"2024-02-29\")'",
-    }
-}
-
 fn is_read(document: &Value, name: &str) -> bool {
     for table in tables(document) {
-        for input in items_after(Some(table), "inputs") {
-            if text_after(Some(input), "name") == Some(name) {
-                return true;
-            }
+        if entry_of_name(items_after(Some(table), "inputs"), name).is_some() {
+            return true;
         }
     }
     false

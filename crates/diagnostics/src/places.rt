@@ -141,18 +141,14 @@ impl Places {
         at: usize,
     ) -> Result<usize, AllocError> {
         match self.value_of(parent, key) {
-            Some(child) => Ok(self.last_item(child)),
+            Some(child) => match self.nodes.get(child) {
+                Some(node) if node.items > 0 => Ok(node.last),
+                _ => Ok(child),
+            },
             None => {
                 let key = String::from_str(self.alloc, key)?;
                 self.push(parent, Some(key), at, at)
             }
-        }
-    }
-
-    fn last_item(&self, number: usize) -> usize {
-        match self.nodes.get(number) {
-            Some(node) if node.items > 0 => node.last,
-            _ => number,
         }
     }
 

@@ -1,6 +1,6 @@
 //! Explains a plan's fault, and where it is in the plan's text.
 
-use crate::hints::{add_hints, advice_at, key_of_fault};
+use crate::hints::{add_explanation, key_of_fault};
 use crate::message::{Message, Part, explain_at};
 use crate::plan_node::{add_part_name, path_to_fault, value_at};
 use crate::texts::{Explanation, Level, level_of, plan_explanation};
@@ -19,7 +19,7 @@ pub fn explain_plan(
     text: &[u8],
     fault: &PlanFault,
 ) -> Result<Message, AllocError> {
-    if matches!(fault.cause, PlanCause::Limit) && level_of(fault) == Level::Plan {
+    if matches!(fault.cause, PlanCause::Limit) && matches!(level_of(fault), Level::Plan) {
         // A text over its limit is read no further than to the limit, so no place in it can be right.
         return explain_at(alloc, "{}", &[Part::Word(name)], plan_explanation(fault));
     }
@@ -38,42 +38,47 @@ fn add_text(
     match toml::table_from_slice(alloc, text) {
         Ok(members) => add_place(message, name, text, &Value::Table(members), fault),
         Err(refusal) if refusal.is_memory() => Err(AllocError),
-        Err(refusal) => {
-            let at = add_refusal(message, name, text, &refusal)?;
-            let words = plan_explanation(fault);
-            let fix = toml_fix(text, at, refusal.message(), words.fix);
-            message.words(Explanation::new(words.cause, fix))
-        }
+        Err(refusal) => add_refusal(message, name, text, &refusal, fault),
     }
 }
 
-// The place and the message of the TOML reader. Returns the offset of the place.
+// The place and the message of the TOML reader, with the cause and the fix.
 fn add_refusal(
     message: &mut Message,
     name: &str,
     text: &[u8],
     refusal: &toml::de::Error,
-) -> Result<usize, AllocError> {
+    fault: &PlanFault,
+) -> Result<(), AllocError> {
     let at = match refusal.span() {
         Some(span) => span.start,
         None => 0,
     };
     message.place(name, text, at)?;
     message.sentence("{}", &[Part::Word(refusal.message())])?;
-    Ok(at)
+    let words = plan_explanation(fault);
+    let fix = toml_fix(text, at, refusal.message(), words.fix);
+    message.words(Explanation::new(words.cause, fix))
 }
 
 // A single quote within a word ends the string, and a table in single brackets occurs once. Only a key that occurs twice has the general fix.
 fn toml_fix(text: &[u8], at: usize, reason: &str, general: &'static str) -> &'static str {
-    let before = text.get(at.saturating_sub(2)..at).unwrap_or(&[]);
-    let rest = text.get(at..).unwrap_or(&[]);
-    match (before, rest) {
-        ([letter, b'\''], [next, ..])
-            if letter.is_ascii_alphabetic() && next.is_ascii_alphabetic() => { APOSTROPHE }
-        _ if rest.starts_with(b"[tables]") => "Write [[tables]], with two brackets on each side.",
-        _ if reason == "duplicate key" => general,
-        _ => "Correct the text at this line and column.",
+    let near = text
+        .get(at.saturating_sub(2)..at.saturating_add(1))
+        .unwrap_or(&[]);
+    if let [letter, b'\'', next] = near
+        && letter.is_ascii_alphabetic()
+        && next.is_ascii_alphabetic()
+    {
+        return APOSTROPHE;
     }
+    if text.get(at..).unwrap_or(&[]).starts_with(b"[tables]") {
+        return "Write [[tables]], with two brackets on each side.";
+    }
+    if reason == "duplicate key" {
+        return general;
+    }
+    "Correct the text at this line and column."
 }
 
 fn add_place(
@@ -91,6 +96,5 @@ fn add_place(
     };
     message.place_of(name, text, place.as_slice())?;
     add_part_name(message, document, fault)?;
-    add_hints(message, document, value, fault)?;
-    message.advice(&advice_at(document, value, fault))
+    add_explanation(message, document, value, fault)
 }

@@ -3,7 +3,7 @@
 use crate::message::{Message, Part, shown_front};
 use crate::places::Step;
 use crate::texts::{Level, level_of};
-use crate::value_path::ValuePath;
+use crate::value_path::{TOP, ValuePath};
 use faults::{PlanCause, PlanFault, RoleKey};
 use std::alloc::{AllocError, Global};
 use toml::Value;
@@ -21,74 +21,57 @@ pub fn document_of(alloc: Global, text: &[u8]) -> Result<Option<Value>, AllocErr
 pub fn path_to_fault(document: &Value, fault: &PlanFault) -> ValuePath {
     let column = fault.column;
     match level_of(fault) {
-        Level::Plan => ValuePath::top(),
-        Level::Field if is_role(document, fault) => {
-            ValuePath::top().key("roles").key(role_name(column))
-        }
-        Level::Field => path_to_field(column),
-        Level::Column if is_in_values(document, fault) => {
-            path_in_table(document, fault.table, 0, column).key("values")
-        }
-        Level::Column if is_in_default(document, fault) => {
-            path_in_table(document, fault.table, 0, column).key("default")
-        }
+        Level::Plan => TOP,
+        Level::Field => match role_of(document, fault) {
+            Some(role) => TOP.key("roles").key(role),
+            None => TOP.item("fields", column),
+        },
+        Level::Column => path_in_column(document, fault),
         _ => path_in_table(document, fault.table, fault.rule, column),
     }
 }
 
-// A column has cells in the allowed values of an input alone.
-fn is_in_values(document: &Value, fault: &PlanFault) -> bool {
-    matches!(fault.cause, PlanCause::Cell(_))
-        && Column::of(document, fault.table, fault.column).is_input
-}
-
-// An output has literals in its priority list and its default. Where it has both, the fault may be in either.
-fn is_in_default(document: &Value, fault: &PlanFault) -> bool {
+// A column has cells in the allowed values of an input, and literals in the priority list and the default of an output. Where an output has both, the
+// fault may be in either.
+fn path_in_column(document: &Value, fault: &PlanFault) -> ValuePath {
     let path = path_in_table(document, fault.table, 0, fault.column);
-    match value_at(document, path.as_slice()) {
-        Some(output) => {
-            matches!(fault.cause, PlanCause::Cell(_)) && output.get("priority").is_none()
-        }
-        None => false,
+    if !matches!(fault.cause, PlanCause::Cell(_)) {
+        return path;
     }
-}
-
-fn path_to_field(field: usize) -> ValuePath {
-    ValuePath::top().key("fields").item(field)
-}
-
-/// The path to a table, by its number from 1.
-pub fn path_to_table(table: usize) -> ValuePath {
-    ValuePath::top().key("tables").item(table)
+    if Column::of(document, fault.table, fault.column).is_input {
+        return path.key("values");
+    }
+    match value_at(document, path.as_slice()) {
+        Some(output) if output.get("priority").is_none() => path.key("default"),
+        _ => path,
+    }
 }
 
 /// The path to a part of a table: to a rule, a column or a cell, by their numbers from 1. Without a rule or a column the number is 0.
 pub fn path_in_table(document: &Value, table: usize, rule: usize, column: usize) -> ValuePath {
-    let mut path = path_to_table(table);
+    let mut path = TOP.item("tables", table);
     if rule > 0 {
-        path = path.key("rules").item(rule);
+        path = path.item("rules", rule);
     }
     if column > 0 {
         let column = Column::of(document, table, column);
-        let list = list_of_columns(rule > 0, column.is_input);
-        path = path.key(list).item(column.number);
+        path = path.item(list_of_columns(rule > 0, column.is_input), column.number);
     }
     path
 }
 
-// Fields and roles have the same place numbers; the cause shows which of them is meant.
-fn is_role(document: &Value, fault: &PlanFault) -> bool {
-    match fault.cause {
+// The key of the role that a fault is about. Fields and roles have the same place numbers; the cause shows which of them is meant.
+fn role_of(document: &Value, fault: &PlanFault) -> Option<&'static str> {
+    let is_role = match fault.cause {
         PlanCause::Role | PlanCause::Money => true,
         _ => items_after(Some(document), "fields").len() < fault.column,
+    };
+    if !is_role {
+        return None;
     }
-}
-
-// The key of a role, by its number from 1; empty if there is no such role.
-fn role_name(number: usize) -> &'static str {
-    match RoleKey::with_number(number) {
-        Some(role) => role.key(),
-        None => "",
+    match RoleKey::with_number(fault.column) {
+        Some(role) => Some(role.key()),
+        None => Some(""),
     }
 }
 
@@ -101,14 +84,14 @@ pub fn add_part_name(
     let column = fault.column;
     match level_of(fault) {
         Level::Plan => message.sentence("the top level of the plan", &[]),
-        Level::Field if is_role(document, fault) => {
-            let name = role_name(column);
-            message.sentence("role {} {}", &[Part::Number(column), Part::Word(name)])
-        }
-        Level::Field => {
-            let name = text_at(document, path_to_field(column).as_slice(), "name");
-            message.sentence("field {} {}", &[Part::Number(column), Part::Word(name)])
-        }
+        Level::Field => match role_of(document, fault) {
+            Some(role) => message.sentence("role {} {}", &[Part::Number(column), Part::Word(role)]),
+            None => {
+                let path = TOP.item("fields", column);
+                let name = text_at(document, path.as_slice(), "name");
+                message.sentence("field {} {}", &[Part::Number(column), Part::Word(name)])
+            }
+        },
         _ => add_name_in_table(message, document, fault.table, fault.rule, column),
     }
 }
@@ -121,21 +104,34 @@ pub fn add_name_in_table(
     rule: usize,
     column: usize,
 ) -> Result<(), AllocError> {
-    message.add("  table {}", &[Part::Number(table)])?;
-    if rule > 0 {
-        message.add(", rule {}", &[Part::Number(rule)])?;
+    let place = Column::of(document, table, column);
+    let side = if place.is_input { "input" } else { "output" };
+    match (rule, column) {
+        (0, 0) => message.sentence("table {}", &[Part::Number(table)]),
+        (_, 0) => {
+            let values = [Part::Number(table), Part::Number(rule)];
+            message.sentence("table {}, rule {}", &values)
+        }
+        (0, _) => {
+            let values = [
+                Part::Number(table),
+                Part::Word(side),
+                Part::Number(place.number),
+                Part::Word(place.name),
+            ];
+            message.sentence("table {}, {} {} {}", &values)
+        }
+        _ => {
+            let values = [
+                Part::Number(table),
+                Part::Number(rule),
+                Part::Word(side),
+                Part::Number(place.number),
+                Part::Word(place.name),
+            ];
+            message.sentence("table {}, rule {}, {} {} {}", &values)
+        }
     }
-    if column > 0 {
-        let column = Column::of(document, table, column);
-        let side = if column.is_input { "input" } else { "output" };
-        let values = [
-            Part::Word(side),
-            Part::Number(column.number),
-            Part::Word(column.name),
-        ];
-        message.add(", {} {} {}", &values)?;
-    }
-    message.add("\n", &[])
 }
 
 /// A column of a table: an input or an output, with its number from 1 among the inputs or the outputs. Its kind is empty if the document does not
@@ -151,15 +147,15 @@ pub struct Column<'d> {
 impl<'d> Column<'d> {
     /// The column of a table, both by their numbers from 1.
     pub fn of(document: &'d Value, table: usize, column: usize) -> Column<'d> {
-        let path = path_to_table(table);
-        let inputs = count_at(document, path.as_slice(), "inputs");
+        let path = TOP.item("tables", table);
+        let inputs = items_after(value_at(document, path.as_slice()), "inputs").len();
         let is_input = column <= inputs;
         let number = if is_input {
             column
         } else {
             column.saturating_sub(inputs)
         };
-        let path = path.key(list_of_columns(false, is_input)).item(number);
+        let path = path.item(list_of_columns(false, is_input), number);
         Column {
             is_input,
             number,
@@ -183,17 +179,18 @@ fn list_of_columns(is_rule: bool, is_input: bool) -> &'static str {
 pub fn value_at<'d>(document: &'d Value, steps: &[Step]) -> Option<&'d Value> {
     let mut value = document;
     for step in steps {
-        value = match step {
-            Step::Key(key) => value.get(*key)?,
-            Step::Item(item) => value.get(*item)?,
+        let next = match step {
+            Step::Key(key) => value.get(*key),
+            Step::Item(item) => value.get(*item),
         };
+        value = next?;
     }
     Some(value)
 }
 
 /// The version of the plan, if the document has one.
 pub fn version_of(document: &Value) -> Option<i64> {
-    value_at_key(Some(document), "version")?.as_integer()
+    document.get("version")?.as_integer()
 }
 
 /// The string at a key of the value at the end of the steps; empty if there is none.
@@ -219,31 +216,33 @@ pub fn single_values(document: &Value, number: usize) -> &[Value] {
     }
 }
 
-/// The length of the array at a key of the value at the end of the steps; 0 if there is none.
-pub fn count_at(document: &Value, steps: &[Step], key: &str) -> usize {
-    items_after(value_at(document, steps), key).len()
-}
-
 /// The string at a key of an entry, if there is one. Only the part is returned that a message shows; a name of a valid plan is shorter.
 pub fn text_after<'d>(entry: Option<&'d Value>, key: &str) -> Option<&'d str> {
-    Some(shown_front(value_at_key(entry, key)?.as_str()?))
+    match value_at_key(entry, key) {
+        Some(Value::String(text)) => Some(shown_front(text.as_str())),
+        _ => None,
+    }
 }
 
 /// The items of the array at a key of an entry; none if there is no such array.
 pub fn items_after<'d>(entry: Option<&'d Value>, key: &str) -> &'d [Value] {
     match value_at_key(entry, key) {
-        Some(array) => items(array),
-        None => &[],
+        Some(Value::Array(items)) => items.as_slice(),
+        _ => &[],
     }
 }
 
-fn items(array: &Value) -> &[Value] {
-    match array.as_array() {
-        Some(items) => items.as_slice(),
-        None => &[],
+/// The first of the entries with this name.
+pub fn entry_of_name<'d>(entries: &'d [Value], name: &str) -> Option<&'d Value> {
+    for entry in entries {
+        if text_after(Some(entry), "name") == Some(name) {
+            return Some(entry);
+        }
     }
+    None
 }
 
-fn value_at_key<'d>(entry: Option<&'d Value>, key: &str) -> Option<&'d Value> {
+/// The value at a key of an entry, if there is one.
+pub fn value_at_key<'d>(entry: Option<&'d Value>, key: &str) -> Option<&'d Value> {
     entry?.get(key)
 }

@@ -55,24 +55,24 @@ impl<'t> Positions<'t> {
     /// The place of the byte at this offset, which must not be less than the last one.
     pub fn next(&mut self, at: usize) -> Position {
         let between = at.saturating_sub(self.at).min(self.rest.len());
-        self.known = self.known.and_then(position_of(self.rest, between));
-        self.rest = &self.rest[between..];
-        self.at = at;
-        self.known
-    }
-}
-
-impl Position {
-    // The other place counts lines and columns from this one on.
-    fn and_then(self, further: Position) -> Position {
+        let further = position_of(self.rest, between);
+        // The further place counts lines and columns from the known one on.
         let column = if further.line == 1 {
-            self.column.saturating_add(further.column).saturating_sub(1)
+            self.known
+                .column
+                .saturating_add(further.column)
+                .saturating_sub(1)
         } else {
             further.column
         };
-        Position {
-            line: self.line.saturating_add(further.line).saturating_sub(1),
-            column,
-        }
+        let line = self
+            .known
+            .line
+            .saturating_add(further.line)
+            .saturating_sub(1);
+        self.known = Position { line, column };
+        self.rest = &self.rest[between..];
+        self.at = at;
+        self.known
     }
 }

@@ -1,29 +1,21 @@
-//! Rows of a form and a sentence, and the search for the first row that fits a cell.
+//! Lists of sentences with the forms of the cells that they are for, and the search for the first row that fits a cell.
+//!
+//! A list is a text. Each of its headings begins with `@`, and has a word, a space and a sentence. The lines below it are the forms that the sentence is
+//! for. The word says where they apply:
+//!
+//! | Word | Where the forms apply |
+//! |---|---|
+//! | `any` | to the test of a cell that has the fault, and to a literal |
+//! | `test` | to the test of a cell that has the fault |
+//! | `range` | to such a test whose first value is less than its second one |
+//! | `text` | to the whole text |
+//! | `cell` | to a whole cell |
+//! | `ended` | to a whole cell that is complete before the fault |
+//! | `literal` | to a literal |
 
 use crate::forms::{Subject, Values, values_of};
 use crate::kind::Kind;
 use faults::{CellCause, CellFault};
-
-/// Where a row applies.
-#[derive(Clone, Copy)]
-pub enum Scope {
-    /// To the test of a cell that has the fault, and to a literal.
-    Any,
-    /// To the test of a cell that has the fault.
-    Cell,
-    /// To such a test whose first value is less than its second one.
-    Range,
-    /// To a whole cell.
-    Whole,
-    /// To a whole cell that is complete before the fault.
-    Rest,
-    /// To a literal.
-    Literal,
-}
-
-/// Where a row applies, a form, and a sentence.
-#[derive(Clone, Copy)]
-pub struct Row(pub Scope, pub &'static str, pub &'static str);
 
 /// A sentence, and the values for its pairs of braces.
 #[derive(Clone, Copy)]
@@ -44,43 +36,49 @@ pub struct BadCell<'d> {
 }
 
 impl<'d> BadCell<'d> {
-    /// The first of the rows that applies and fits.
-    pub fn first_row(&self, rows: &[Row]) -> Option<Found<'d>> {
-        for row in rows {
-            if self.is_in(row.0)
-                && let Some(values) = values_of(self.subject(row.0), row.1)
-                && (!matches!(row.0, Scope::Range)
-                    || is_ascending(values.texts[0], values.texts[1]))
+    /// The sentence of the first form of a list that applies and fits, with the values.
+    pub fn first_row(&self, list: &'static str) -> Option<Found<'d>> {
+        for part in list.split('@') {
+            if let Some((heading, forms)) = part.split_once('\n')
+                && let Some((place, sentence)) = heading.split_once(' ')
+                && let Some(values) = self.first_form(place, forms)
             {
-                return Some(Found {
-                    sentence: row.2,
-                    values,
-                });
+                return Some(Found { sentence, values });
             }
         }
         None
     }
 
-    fn is_in(&self, scope: Scope) -> bool {
-        match scope {
-            Scope::Any => true,
-            Scope::Cell | Scope::Range | Scope::Whole => !self.is_literal,
-            Scope::Rest => !self.is_literal && matches!(self.fault.cause, CellCause::Trailing),
-            Scope::Literal => self.is_literal,
+    // The values of the first of the forms that fits, if forms for this place apply.
+    fn first_form(&self, place: &str, forms: &str) -> Option<Values<'d>> {
+        let subject = self.subject_at(place)?;
+        let is_range = place == "range";
+        for form in forms.lines() {
+            if let Some(values) = values_of(subject, form)
+                && (!is_range || is_ascending(values.texts[0], values.texts[1]))
+            {
+                return Some(values);
+            }
         }
+        None
     }
 
-    /// The text that the forms of a scope are compared with.
-    pub fn subject(&self, scope: Scope) -> Subject<'d> {
-        let begin = match scope {
-            Scope::Whole | Scope::Rest => 0,
-            Scope::Any | Scope::Cell | Scope::Range | Scope::Literal => self.begin_of_test(),
+    // The text that forms for this place are compared with, if they apply.
+    fn subject_at(&self, place: &str) -> Option<Subject<'d>> {
+        let begin = match place {
+            "any" => self.begin_of_test(),
+            "literal" if self.is_literal => self.begin_of_test(),
+            "test" | "range" if !self.is_literal => self.begin_of_test(),
+            "text" => 0,
+            "cell" if !self.is_literal => 0,
+            "ended" if !self.is_literal && matches!(self.fault.cause, CellCause::Trailing) => 0,
+            _ => return None,
         };
-        Subject {
+        Some(Subject {
             text: self.text.get(begin..).unwrap_or(&[]),
             kind: self.kind,
             fault: self.fault.at.saturating_sub(begin),
-        }
+        })
     }
 
     // The offset of the test that has the fault: after the last comma before it that is in no text, or after the parenthesis of `not`.

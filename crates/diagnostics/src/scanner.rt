@@ -58,7 +58,8 @@ impl<'t> Scanner<'t> {
         }
         match self.open.as_slice().last().copied() {
             Some(open) => self.within(open)?,
-            None => self.line()?,
+            None if first(self.rest) == b'[' => self.header()?,
+            None => self.pair(self.section)?,
         }
         Ok(true)
     }
@@ -79,15 +80,6 @@ impl<'t> Scanner<'t> {
             _ => self.pair(open.number)?,
         }
         Ok(())
-    }
-
-    // Reads a header, or a key with its value.
-    fn line(&mut self) -> Result<(), ParseError> {
-        if first(self.rest) == b'[' {
-            self.header()
-        } else {
-            self.pair(self.section)
-        }
     }
 
     fn header(&mut self) -> Result<(), ParseError> {

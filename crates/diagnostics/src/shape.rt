@@ -65,13 +65,11 @@ impl Shape {
         !self.keys().is_empty()
     }
 
-    fn has_key(self, key: &str, families: bool) -> bool {
-        self.keys().contains(&key) || (families && self.family_keys().contains(&key))
-    }
-
     /// The part that is the value of a key of this one. Each key has values of the same shape in all parts.
     pub fn key_shape(self, key: &str, families: bool) -> Shape {
-        if !self.has_key(key, families) {
+        let is_known = self.keys().contains(&key)
+            || (families && self.family_keys().contains(&key));
+        if !is_known {
             return Shape::UnusedKey;
         }
         match key {
@@ -164,11 +162,16 @@ impl Type {
         }
     }
 
-    /// What to write in place of a value of another type, which may be an array.
-    pub fn fix(self, is_array: bool) -> &'static str {
+    /// What to write at a key in place of a value of another type, which may be an array.
+    pub fn fix(self, key: &str, is_array: bool) -> &'static str {
         match self {
             Type::Integer => "Write an integer without quotes: 1, 2 or 3.",
-            Type::Array => "Write an array: put the items in brackets.",
+            Type::Array => match key {
+                "tables" => "Write [[tables]], with two brackets on each side.",
+                "fields" =>
+                    "Write an array of fields: fields = [{name = \"age\", kind = \"number\"}].",
+                _ => "Write an array: put the items in brackets.",
+            },
             Type::FilledArray => "Write an array of at least one item, in brackets.",
             Type::Table => "Write a table: the line [roles], and the keys after it.",
             Type::Text if is_array => {

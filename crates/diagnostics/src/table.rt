@@ -20,26 +20,26 @@ pub fn explain_tables(
         Fault::NoRule { table } | Fault::Clash { table } | Fault::Range { table } => (*table, 0),
         Fault::OutOfMemory => return explain(alloc, words),
     };
-    let Some(document) = document_of(alloc, text)? else {
-        return explain(alloc, words);
-    };
+    let document = document_of(alloc, text)?;
     let mut message = Message::new(alloc);
     let done = add_input(&mut message, name, text, &document, table, input, words);
     message.after(done)
 }
 
-// Input 0 is the table itself.
+// Input 0 is the table itself. Without a document no place is known.
 fn add_input(
     message: &mut Message,
     name: &str,
     text: &[u8],
-    document: &Value,
+    document: &Option<Value>,
     table: usize,
     input: usize,
     words: Explanation,
 ) -> Result<(), AllocError> {
-    let path = path_in_table(document, table, 0, input);
-    message.place_of(name, text, path.as_slice())?;
-    add_name_in_table(message, document, table, 0, input)?;
+    if let Some(document) = document {
+        let path = path_in_table(document, table, 0, input);
+        message.place_of(name, text, path.as_slice())?;
+        add_name_in_table(message, document, table, 0, input)?;
+    }
     message.words(words)
 }

@@ -19,7 +19,7 @@ impl Explanation {
 }
 
 /// The part of a plan that a fault is located at. Each arm of a `match` over them begins with the part that has the fault; those after it do not occur.
-#[derive(Clone, Copy, PartialEq, Eq)]
+#[derive(Clone, Copy)]
 pub enum Level {
     Plan,
     Field,
@@ -43,26 +43,28 @@ pub fn level_of(fault: &PlanFault) -> Level {
 
 /// The explanation of a plan's fault.
 pub fn plan_explanation(fault: &PlanFault) -> Explanation {
+    let level = level_of(fault);
+    let role = RoleKey::with_number(fault.column);
     match fault.cause {
         PlanCause::Toml => Explanation::new(
             "The plan is not a TOML document in UTF-8.",
             "Correct the line; a table may have each key only once.",
         ),
-        PlanCause::Missing => missing_key_explanation(level_of(fault)),
-        PlanCause::Unknown => unknown_name_explanation(level_of(fault)),
+        PlanCause::Missing => missing_key_explanation(level),
+        PlanCause::Unknown => unknown_name_explanation(level),
         PlanCause::Duplicate => Explanation::new(
             "The name is already in use: by another field or output, by a built-in name, or by a word of cells.",
             "Choose another name.",
         ),
-        PlanCause::Kind => kind_explanation(level_of(fault)),
+        PlanCause::Kind => kind_explanation(level),
         PlanCause::Hit => Explanation::new(
             "The hit policy is unknown, or it does not fit the outputs of the table.",
             "Use `U`, `A`, `P`, `F`, `O`, `R`, `C`, `C+`, `C<`, `C>` or `C#`. The last four take one output, and `C+`, `C<` and `C>` take an output of numbers.",
         ),
-        PlanCause::Priority => priority_explanation(level_of(fault)),
-        PlanCause::Role => role_explanation(RoleKey::with_number(fault.column)),
-        PlanCause::Money => money_explanation(RoleKey::with_number(fault.column)),
-        PlanCause::Limit => limit_explanation(level_of(fault)),
+        PlanCause::Priority => priority_explanation(level),
+        PlanCause::Role => role_explanation(role),
+        PlanCause::Money => money_explanation(role),
+        PlanCause::Limit => limit_explanation(level),
         PlanCause::Cell(cell) => cell_explanation(cell.cause),
         PlanCause::OutOfMemory => memory(),
     }

@@ -12,23 +12,21 @@ pub struct ValuePath {
     count: usize,
 }
 
-impl ValuePath {
-    /// The path to the document itself.
-    pub fn top() -> ValuePath {
-        ValuePath {
-            steps: [Step::Item(0); STEPS_LIMIT],
-            count: 0,
-        }
-    }
+/// The path to the document itself.
+pub const TOP: ValuePath = ValuePath {
+    steps: [Step::Item(0); STEPS_LIMIT],
+    count: 0,
+};
 
+impl ValuePath {
     /// The path on to the value at a key.
     pub fn key(self, key: &'static str) -> ValuePath {
         self.on(Step::Key(key))
     }
 
-    /// The path on to an item. Numbers of items count from 1, and steps from 0.
-    pub fn item(self, number: usize) -> ValuePath {
-        self.on(Step::Item(number.saturating_sub(1)))
+    /// The path on to an item of the array at a key. Numbers of items count from 1, and steps from 0.
+    pub fn item(self, list: &'static str, number: usize) -> ValuePath {
+        self.key(list).on(Step::Item(number.saturating_sub(1)))
     }
 
     fn on(self, step: Step) -> ValuePath {

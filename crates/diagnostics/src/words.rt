@@ -1,59 +1,78 @@
-//! Words that people write for hit policies and kinds.
+//! Words that people write for hit policies and kinds, as lists of forms (`row.rt`).
 
-use crate::forms::{Subject, values_of};
 use crate::kind::Kind;
+use crate::row::BadCell;
+use faults::{CellCause, CellFault};
 
-/// A form, and the hit policy that it means.
-pub static HIT_POLICIES: [[&str; 2]; 20] = [
-    ["*sum*", "C+"],
-    ["*min*", "C<"],
-    ["*max*", "C>"],
-    ["*unt*", "C#"],
-    ["uni*", "U"],
-    ["any*", "A"],
-    ["pri*", "P"],
-    ["fir*", "F"],
-    ["out*", "O"],
-    ["rul*", "R"],
-    ["col*", "C"],
-    ["u", "U"],
-    ["a", "A"],
-    ["p", "P"],
-    ["f", "F"],
-    ["o", "O"],
-    ["r", "R"],
-    ["c", "C"],
-    ["c +", "C+"],
-    ["c #", "C#"],
-];
+/// For each hit policy the forms of the words that mean it.
+pub const HIT_POLICIES: &str = "
+@literal C+
+*sum*
+c +
+@literal C<
+*min*
+@literal C>
+*max*
+@literal C#
+*unt*
+c #
+@literal U
+uni*
+u
+@literal A
+any*
+a
+@literal P
+pri*
+p
+@literal F
+fir*
+f
+@literal O
+out*
+o
+@literal R
+rul*
+r
+@literal C
+col*
+c
+";
 
-/// A form, and what to write for the kind that it means.
-pub static KINDS: [[&str; 2]; 12] = [
-    ["str*", "Write the kind `text`."],
-    ["char*", "Write the kind `text`."],
-    ["varchar*", "Write the kind `text`."],
-    ["text", "Write the kind `text`."],
-    ["int*", "Write the kind `number`."],
-    ["num*", "Write the kind `number`."],
-    ["dec*", "Write the kind `number`."],
-    ["float*", "Write the kind `number`."],
-    ["money*", "Write the kind `number`."],
-    ["bool*", "Write the kind `flag`."],
-    ["date*", "Write the kind `day`."],
-    ["*", "Use one of the four kinds."],
-];
+/// What to write for a kind, with the forms of the words that mean it.
+pub const KINDS: &str = "
+@literal Write the kind `text`.
+str*
+char*
+varchar*
+text
+@literal Write the kind `number`.
+int*
+num*
+dec*
+float*
+money*
+@literal Write the kind `flag`.
+bool*
+@literal Write the kind `day`.
+date*
+@literal Use one of the four kinds.
+*
+";
 
-/// What the first of the forms that a word has means.
-pub fn meaning_of(word: &str, rows: &[[&'static str; 2]]) -> Option<&'static str> {
-    let subject = Subject {
+/// What a word means by the first of the forms that fits; empty if none does.
+pub fn meaning_of(word: &str, list: &'static str) -> &'static str {
+    let word = BadCell {
         text: word.as_bytes(),
         kind: Kind::Text,
-        fault: 0,
+        is_literal: true,
+        fault: CellFault {
+            cause: CellCause::Token,
+            at: 0,
+        },
     };
-    for row in rows {
-        if values_of(subject, row[0]).is_some() {
-            return Some(row[1]);
-        }
+    match word.first_row(list) {
+        Some(found) => found.sentence,
+        None => "",
     }
-    None
 }

@@ -2,6 +2,7 @@ pub mod DistinctNames
 pub mod Entries
 pub mod Exits
 pub mod FoundOutput
+pub mod HitWords
 pub mod PlanLimits
 pub mod ReadNames
 pub mod ReadOnce

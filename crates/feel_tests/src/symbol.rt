@@ -34,6 +34,11 @@ pub enum Symbol {
     Dash,
 }
 
+// The bytes of each symbol, in the order of the variants.
+static SYMBOL_TEXTS: [&[u8]; 11] = [
+    b"<", b"<=", b">", b">=", b"(", b")", b"[", b"]", b"..", b",", b"-",
+];
+
 // The symbols of two bytes precede the ones of one byte that they begin with, so that the longest
 // symbol is found first.
 const SYMBOLS: [Symbol; 11] = [
@@ -68,19 +73,7 @@ impl Symbol {
     pub fn text(self) -> &'static [u8]
         ensures { result.now ≡ symbol_text self }
     {
-        match self {
-            Symbol::Less => b"<",
-            Symbol::AtMost => b"<=",
-            Symbol::More => b">",
-            Symbol::AtLeast => b">=",
-            Symbol::OpenRound => b"(",
-            Symbol::CloseRound => b")",
-            Symbol::OpenSquare => b"[",
-            Symbol::CloseSquare => b"]",
-            Symbol::Dots => b"..",
-            Symbol::Comma => b",",
-            Symbol::Dash => b"-",
-        }
+        SYMBOL_TEXTS[self as usize]
     }
 
     /// Returns the comparison with this operator, or `None` if the symbol is not an operator.

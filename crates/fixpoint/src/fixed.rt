@@ -104,7 +104,10 @@ impl Fixed {
         ensures rounded { IfSome result (IsCentsOfProduct self rate) }
     {
         let units = cents_of_product(self.units, rate.units);
-        Fixed::from_units(i64::try_from(units).ok()?)
+        match i64::try_from(units) {
+            Ok(units) => Fixed::from_units(units),
+            Err(_) => None,
+        }
     }
 
     /// Returns whether the number is a whole count of cents.

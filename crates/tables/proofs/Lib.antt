@@ -7,5 +7,6 @@ pub mod OutputPlaces
 pub mod PriorityOrder
 pub mod RankedOnce
 pub mod Ready
+pub mod Searches
 pub mod SlotKinds
 pub mod Steps

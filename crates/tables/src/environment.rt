@@ -71,8 +71,10 @@ impl<'a> Env<'a> {
     pub fn at(&self, place: OutputPlace) -> Option<&Answer>
         ensures { option_copied result ≡ answer_at self.now.answers place }
     {
-        let answers = self.answers.as_slice().get(place.table)?;
-        answers.as_slice().get(place.column)
+        match self.answers.as_slice().get(place.table) {
+            Some(answers) => answers.as_slice().get(place.column),
+            None => None,
+        }
     }
 }
 
@@ -117,7 +119,10 @@ fn answer_in<'a>(outputs: &[Output], answers: &'a [Answer], name: &str) -> Optio
 pub fn place_of(outputs: &[Output], name: &str) -> Option<usize>
     ensures { result ≡ position (λ o. bytes_eq o.name name.now) outputs.now }
 {
-    outputs
-        .iter()
-        .position(|output| output.name.as_str() == name)
+    for (place, output) in outputs.iter().enumerate() {
+        if output.name.as_str() == name {
+            return Some(place);
+        }
+    }
+    None
 }

@@ -139,7 +139,12 @@ impl Plan {
     pub fn needs(&self, place: usize) -> bool
         ensures { result ≡ needs self.now.tables place }
     {
-        self.tables.iter().any(|table| table.reads(place))
+        for table in self.tables() {
+            if table.reads(place) {
+                return true;
+            }
+        }
+        false
     }
 
     /// Returns whether every name that a table reads has a value.
@@ -243,5 +248,10 @@ fn named_input(alloc: Global, name: &str, kind: Kind) -> Result<InputData, Alloc
 fn are_served(tables: &[Table], inputs: &Inputs) -> bool
     ensures { result ≡ list_all (is_served inputs.now) tables.now }
 {
-    tables.iter().all(|table| table.is_served(inputs))
+    for table in tables {
+        if !table.is_served(inputs) {
+            return false;
+        }
+    }
+    true
 }

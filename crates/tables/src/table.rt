@@ -109,16 +109,26 @@ impl Table {
     pub fn reads(&self, place: usize) -> bool
         ensures { result ≡ list_any (λ i. reads place i.origin) self.now.inputs }
     {
-        self.inputs.iter().any(|input| input.origin.reads(place))
+        let inputs = self.inputs.as_slice();
+        for input in inputs {
+            if input.origin.reads(place) {
+                return true;
+            }
+        }
+        false
     }
 
     /// Returns whether all input data that the table reads have a value.
     pub fn is_served(&self, inputs: &Inputs) -> bool
         ensures { result ≡ is_served inputs.now self.now }
     {
-        self.inputs
-            .iter()
-            .all(|input| input.origin.is_served(inputs))
+        let read = self.inputs.as_slice();
+        for input in read {
+            if !input.origin.is_served(inputs) {
+                return false;
+            }
+        }
+        true
     }
 
     /// Returns the entries of the rule at an index from 0, or an empty slice if there is no such

@@ -24,13 +24,23 @@ pub fn satisfies_constraints(hit: Hit, outputs: &[Output]) -> bool
 fn are_ranked(outputs: &[Output]) -> bool
     ensures { result ≡ list_any (λ o. is_some o.priority) outputs.now }
 {
-    outputs.iter().any(|output| output.priority.is_some())
+    for output in outputs {
+        if output.priority.is_some() {
+            return true;
+        }
+    }
+    false
 }
 
 fn are_numbers(outputs: &[Output]) -> bool
     ensures { result ≡ list_all (λ o. same_kind o.kind kinds.Number) outputs.now }
 {
-    outputs.iter().all(|output| is_number(output.kind))
+    for output in outputs {
+        if !is_number(output.kind) {
+            return false;
+        }
+    }
+    true
 }
 
 fn is_number(kind: Kind) -> bool
@@ -53,5 +63,5 @@ pub fn is_ranked(priority: &Option<Sequence<Value>>, entry: &Value) -> bool
 pub fn is_listed(list: &[Value], entry: &Value) -> bool
     ensures { result ≡ list_any (λ listed. is_equal listed entry.now) list.now }
 {
-    list.iter().any(|listed| listed == entry)
+    list.contains(entry)
 }

@@ -1,5 +1,7 @@
 //! The reader of the names and kinds of a plan's columns, and of its fields.
 ghost use Rattle.std.specs.Prelude.{◌≡◌, ◌++◌};
+ghost use Rattle.std.specs.List.{list_all};
+ghost use Rattle.feel_tests.specs.Words.{is_name_byte};
 ghost use Rattle.toml.specs.View.{view, items_view};
 ghost use Rattle.dtable.specs.NameForm.{family_names, has_name_form, is_among, names_taken, reserved_names};
 ghost use Rattle.dtable.specs.PlanFile.{IsNamed, IsNewlyNamed, IsOfKind, IsField, AreFields, AreNames};
@@ -141,15 +143,26 @@ fn has_name_form(text: &str) -> bool
 {
     match text.as_bytes() {
         [] => false,
-        [first, rest @ ..] => is_name_start(*first) && rest.iter().all(|byte| is_name_byte(*byte)),
+        [first, rest @ ..] => is_name_start(*first) && are_name_bytes(rest),
     }
+}
+
+fn are_name_bytes(bytes: &[u8]) -> bool
+    ensures { result ≡ list_all is_name_byte bytes.now }
+{
+    for byte in bytes {
+        if !is_name_byte(*byte) {
+            return false;
+        }
+    }
+    true
 }
 
 /// Returns whether the name is reserved in every plan.
 pub fn is_reserved(name: &str) -> bool
     ensures { result ≡ is_among name.now reserved_names }
 {
-    RESERVED_NAMES.iter().any(|reserved| *reserved == name)
+    RESERVED_NAMES.contains(&name)
 }
 
 /// Returns whether the name is reserved in a plan that keeps accumulators for families, or in one
@@ -168,5 +181,5 @@ pub fn is_taken_from_start(families: bool, name: &str) -> bool
 fn is_family_name(name: &str) -> bool
     ensures { result ≡ is_among name.now family_names }
 {
-    FAMILY_NAMES.iter().any(|taken| *taken == name)
+    FAMILY_NAMES.contains(&name)
 }

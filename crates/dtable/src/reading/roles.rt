@@ -299,7 +299,12 @@ fn lists_texts(tables: &[Table], name: &str) -> bool
     ensures listed { result ≡ lists_texts (map seen_of tables.now) name.now }
     ensures short { OnTrue result (length name.now ≤ name_limit_bytes) }
 {
-    tables.iter().any(|table| table_lists_texts(table, name))
+    for table in tables {
+        if table_lists_texts(table, name) {
+            return true;
+        }
+    }
+    false
 }
 
 fn table_lists_texts(table: &Table, name: &str) -> bool
@@ -315,7 +320,20 @@ fn some_text(outputs: &[Output], name: &str) -> bool
         && same_kind kinds.Text o.kind) outputs.now }
     ensures short { OnTrue result (length name.now ≤ name_limit_bytes) }
 {
-    outputs.iter().any(|output| output.name.as_str() == name && is_text(output.kind))
+    for output in outputs {
+        if is_text_named(output, name) {
+            return true;
+        }
+    }
+    false
+}
+
+fn is_text_named(output: &Output, name: &str) -> bool
+    ensures named { result
+        ≡ (bytes_eq output.now.name name.now && same_kind kinds.Text output.now.kind) }
+    ensures short { OnTrue result (length name.now ≤ name_limit_bytes) }
+{
+    output.name.as_str() == name && is_text(output.kind)
 }
 
 fn is_text(kind: Kind) -> bool

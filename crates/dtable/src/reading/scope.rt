@@ -13,10 +13,22 @@ use tables::{InputData, Origin, Output, Table};
 pub fn origin_of(names: &[InputData], tables: &[Table], name: &str) -> Option<Origin>
     ensures { result ≡ origin_of names.now (map seen_of tables.now) name.now }
 {
-    match names.iter().position(|data| data.name.as_str() == name) {
+    match data_place(names, name) {
         Some(place) => Some(Origin::Given(place)),
         None => earlier_origin(tables, name),
     }
+}
+
+/// Returns the index of the input data with this name.
+fn data_place(names: &[InputData], name: &str) -> Option<usize>
+    ensures { result ≡ position (λ d. bytes_eq d.name name.now) names.now }
+{
+    for (place, data) in names.iter().enumerate() {
+        if data.name.as_str() == name {
+            return Some(place);
+        }
+    }
+    None
 }
 
 fn earlier_origin(tables: &[Table], name: &str) -> Option<Origin>
@@ -36,10 +48,19 @@ fn single_column(table: &Table, name: &str) -> Option<usize>
     if !table.hit.gives_one() {
         return None;
     }
-    table
-        .outputs
-        .iter()
-        .position(|output| output.name.as_str() == name)
+    output_column(table.outputs.as_slice(), name)
+}
+
+/// Returns the index of the first output with this name.
+fn output_column(outputs: &[Output], name: &str) -> Option<usize>
+    ensures { result ≡ position (λ o. bytes_eq o.name name.now) outputs.now }
+{
+    for (column, output) in outputs.iter().enumerate() {
+        if output.name.as_str() == name {
+            return Some(column);
+        }
+    }
+    None
 }
 
 /// Returns the kind of the value from this origin.
@@ -91,19 +112,22 @@ pub fn is_taken_field(families: bool, front: &[InputData], name: &str) -> bool
 fn is_data(names: &[InputData], name: &str) -> bool
     ensures { result ≡ is_among name.now (data_names names.now) }
 {
-    names.iter().any(|data| data.name.as_str() == name)
+    data_place(names, name).is_some()
 }
 
 fn is_output(outputs: &[Output], name: &str) -> bool
     ensures { result ≡ is_among name.now (output_names outputs.now) }
 {
-    outputs.iter().any(|output| output.name.as_str() == name)
+    output_column(outputs, name).is_some()
 }
 
 fn is_output_of(tables: &[Table], name: &str) -> bool
     ensures { result ≡ is_among name.now (seen_names (map seen_of tables.now)) }
 {
-    tables
-        .iter()
-        .any(|table| is_output(table.outputs.as_slice(), name))
+    for table in tables {
+        if is_output(table.outputs.as_slice(), name) {
+            return true;
+        }
+    }
+    false
 }

@@ -19,6 +19,21 @@ use std::alloc::Global;
 use tables::{Hit, InputData, Table};
 use toml::Value;
 
+/// The hit policies that a plan can name.
+const HITS: [Hit; 11] = [
+    Hit::U,
+    Hit::A,
+    Hit::P,
+    Hit::F,
+    Hit::O,
+    Hit::R,
+    Hit::C,
+    Hit::Sum,
+    Hit::Min,
+    Hit::Max,
+    Hit::Count,
+];
+
 /// Reads the tables of a document.
 pub fn read_tables(
     alloc: Global,
@@ -116,19 +131,29 @@ fn hit_of(word: &str) -> Option<Hit>
     ensures named { IfSome result (λ hit. word.now ≡ hit_word hit) }
     ensures none { IfNone result ((hit : Hit) → word.now ≢ hit_word hit) }
 {
-    match word {
-        "U" => Some(Hit::U),
-        "A" => Some(Hit::A),
-        "P" => Some(Hit::P),
-        "F" => Some(Hit::F),
-        "O" => Some(Hit::O),
-        "R" => Some(Hit::R),
-        "C" => Some(Hit::C),
-        "C+" => Some(Hit::Sum),
-        "C<" => Some(Hit::Min),
-        "C>" => Some(Hit::Max),
-        "C#" => Some(Hit::Count),
-        _ => None,
+    for hit in &HITS {
+        if word_of(*hit) == word {
+            return Some(*hit);
+        }
+    }
+    None
+}
+
+fn word_of(hit: Hit) -> &'static str
+    ensures { result.now ≡ hit_word hit }
+{
+    match hit {
+        Hit::U => "U",
+        Hit::A => "A",
+        Hit::P => "P",
+        Hit::F => "F",
+        Hit::O => "O",
+        Hit::R => "R",
+        Hit::C => "C",
+        Hit::Sum => "C+",
+        Hit::Min => "C<",
+        Hit::Max => "C>",
+        Hit::Count => "C#",
     }
 }
 

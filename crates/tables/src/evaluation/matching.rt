@@ -1,6 +1,6 @@
 //! The rules that match (DMN 1.4, decision tables).
-ghost use Rattle.std.specs.Prelude.{◌≡◌, ◌+◌, ◌<◌, ◌^◌, IfOk, IfSome};
-ghost use Rattle.std.specs.Option.{option_copied};
+ghost use Rattle.std.specs.Prelude.{◌≡◌, ◌+◌, ◌<◌, ◌^◌, IfOk, IfSome, slice_get};
+ghost use Rattle.std.specs.Option.{option_copied, option_and_then};
 ghost use Rattle.tables.specs.Matching.{value_read, earlier_value, single, holds_of, cells_hold, matching, is_outside, first_outside};
 
 use crate::answers::Answers;
@@ -38,10 +38,17 @@ pub fn matching(
 fn cells_hold(given: &Inputs, earlier: &[Answers<'_>], inputs: &[Input], cells: &[Cell]) -> bool
     ensures { result ≡ cells_hold given.now earlier.now inputs.now cells.now }
 {
-    inputs.iter().zip(cells).all(|(input, cell)| holds_of(
-        value_read(given, earlier, input.origin),
-        cell,
-    ))
+    for (place, input) in inputs.iter().enumerate() {
+        match cells.get(place) {
+            Some(cell) => {
+                if !cell_holds(given, earlier, input, cell) {
+                    return false;
+                }
+            }
+            None => return true,
+        }
+    }
+    true
 }
 
 /// Returns the first column, from 0, whose value is not among its allowed values.
@@ -49,19 +56,28 @@ pub fn first_outside(given: &Inputs, earlier: &[Answers<'_>], table: &Table) -> 
     ensures value { result ≡ first_outside given.now earlier.now table.now }
     ensures countable { IfSome result (λ column. column + 1 < 2 ^ 64) }
 {
-    table
-        .inputs
-        .iter()
-        .position(|input| is_outside(given, earlier, input))
+    let inputs = table.inputs.as_slice();
+    for (column, input) in inputs.iter().enumerate() {
+        if is_outside(given, earlier, input) {
+            return Some(column);
+        }
+    }
+    None
 }
 
 fn is_outside(given: &Inputs, earlier: &[Answers<'_>], input: &Input) -> bool
     ensures { result ≡ is_outside given.now earlier.now input.now }
 {
     match &input.values {
-        Some(allowed) => !holds_of(value_read(given, earlier, input.origin), allowed),
+        Some(allowed) => !cell_holds(given, earlier, input, allowed),
         None => false,
     }
+}
+
+fn cell_holds(given: &Inputs, earlier: &[Answers<'_>], input: &Input, cell: &Cell) -> bool
+    ensures { result ≡ holds_of (value_read given.now earlier.now input.now.origin) cell.now }
+{
+    holds_of(value_read(given, earlier, input.origin), cell)
 }
 
 /// Returns the value that an input reads: a given value, or an answer of an earlier table.
@@ -81,9 +97,18 @@ pub fn value_read<'a>(
 fn earlier_value<'a>(earlier: &'a [Answers<'_>], table: usize, column: usize) -> Option<&'a Value>
     ensures { option_copied result ≡ earlier_value earlier.now table column }
 {
-    match earlier.get(table)?.as_slice().get(column)? {
-        Answer::One(value) => Some(value),
-        Answer::Many(_) => None,
+    match earlier.get(table) {
+        Some(answers) => single_at(answers.as_slice(), column),
+        None => None,
+    }
+}
+
+fn single_at(answers: &[Answer], column: usize) -> Option<&Value>
+    ensures { option_copied result ≡ option_and_then single (slice_get answers.now column) }
+{
+    match answers.get(column) {
+        Some(Answer::One(value)) => Some(value),
+        _ => None,
     }
 }
 

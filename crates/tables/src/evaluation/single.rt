@@ -47,7 +47,12 @@ fn push_default(
 fn have_defaults(outputs: &[Output]) -> bool
     ensures { result ≡ list_all (λ o. is_some o.fallback) outputs.now }
 {
-    outputs.iter().all(|output| output.fallback.is_some())
+    for output in outputs {
+        if output.fallback.is_none() {
+            return false;
+        }
+    }
+    true
 }
 
 /// Applies Unique: the entries of the only match.
@@ -91,7 +96,12 @@ pub fn any(
 pub fn rules_agree(table: &Table, rule: usize, others: &[usize]) -> bool
     ensures { result ≡ list_all (agree table.now rule) others.now }
 {
-    others.iter().all(|other| agree(table, rule, *other))
+    for other in others {
+        if !agree(table, rule, *other) {
+            return false;
+        }
+    }
+    true
 }
 
 fn agree(table: &Table, rule: usize, other: usize) -> bool

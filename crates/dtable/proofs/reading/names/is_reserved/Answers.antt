@@ -1,11 +1,6 @@
-use Rattle.std.proofs.Common.{rules, tests}
-use Rattle.std.proofs.lemmas.Iterator.{YieldsList-from_slice}
-use Rattle.std.proofs.lemmas.Iterator.Search.{any_from_yields_List}
-use Rattle.std.specs.Str.{bytes_eq}
 use Rattle.dtable.specs.NameForm.{reserved_names}
 use Rattle.dtable.proofs.reading.names.is_reserved.Goals as goal
 
 pub returns : goal.returns
 unfolding reserved_names
-returns c =
-    any_from_yields_List (λ reserved. bytes_eq reserved.now c.args.name.now) _ _ _ c.any.ensures.ran (YieldsList-from_slice _ c.iter.ensures.rest) (λ x b q k. search (rules, tests))
+returns c = c.contains.ensures.value

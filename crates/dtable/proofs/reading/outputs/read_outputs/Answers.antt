@@ -1,4 +1,5 @@
-use Rattle.std.proofs.Common.{map, ◌+◌, ◌++◌, take, refl, sym, subst}
+use Rattle.std.proofs.lemmas.Grind.{common_steps}
+use Rattle.std.proofs.Common.{arith, map, ◌+◌, ◌++◌, take, refl, sym, subst}
 use Rattle.toml.specs.View.{view, items_view}
 use Rattle.dtable.specs.PlanFile.{IsOutput, AreOutputs}
 use Rattle.dtable.specs.Scope.{seen_of, taken_names, output_names}
@@ -60,3 +61,12 @@ returns-in_err-check_count c =
 
 pub returns-in_err-push : goal.returns-in_err-push
 returns-in_err-push c = passed_on (AreOutputs c.args.hit (taken_names c.args.names.now (map seen_of c.args.tables.now)) (view c.args.table.now)) c.from_residual-in_err-push.result _ c.from_residual-in_err-push.ensures.1 (λ memory outputs h. memory refl)
+
+pub at-requires-in-loop-index : goal.at-requires-in-loop-index
+at-requires-in-loop-index c = grind (arith, common_steps)
+
+pub overflow_add-inputs-in-loop-index : goal.overflow_add-inputs-in-loop-index
+overflow_add-inputs-in-loop-index c = grind (arith, common_steps)
+
+pub offset_bounds-entries-index : goal.offset_bounds-entries-index
+offset_bounds-entries-index c = grind (arith, common_steps)

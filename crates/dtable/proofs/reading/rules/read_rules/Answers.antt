@@ -1,4 +1,5 @@
-use Rattle.std.proofs.Common.{map, ◌+◌, take, refl, sym, subst}
+use Rattle.std.proofs.lemmas.Grind.{common_steps}
+use Rattle.std.proofs.Common.{arith, map, ◌+◌, take, refl, sym, subst}
 use Rattle.toml.specs.View.{view, items_view}
 use Rattle.dtable.specs.PlanFile.{IsRule, AreRules}
 use Rattle.dtable.specs.Scope.{seen_of}
@@ -49,3 +50,6 @@ pub returns-in_err-check_count : goal.returns-in_err-check_count
 returns-in_err-check_count c =
     passed_on (AreRules c.args.names.now (map seen_of c.args.tables.now) c.args.inputs.now c.args.outputs.now (view c.args.table.now)) c.from_residual-in_err-check_count.result _ c.from_residual-in_err-check_count.ensures.1
     (λ memory rules h. over_limit _ _ _ rules_limit c.in_ok-entries.ensures.ok h.written c.in_err-check_count.ensures.refused h.within)
+
+pub offset_bounds-entries-index : goal.offset_bounds-entries-index
+offset_bounds-entries-index c = grind (arith, common_steps)

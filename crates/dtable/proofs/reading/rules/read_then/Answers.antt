@@ -1,4 +1,5 @@
-use Rattle.std.proofs.Common.{codes, refl, ◌+◌, ◌<◌, take, sym, subst}
+use Rattle.std.proofs.lemmas.Grind.{common_steps}
+use Rattle.std.proofs.Common.{arith, codes, refl, ◌+◌, ◌<◌, take, sym, subst}
 use Rattle.toml.specs.View.{view, items_view}
 use Rattle.dtable.specs.PlanFile.{IsEntry, IsRow}
 use Rattle.dtable.proofs.Entries.{EachUnder-more}
@@ -41,3 +42,15 @@ bounds-outputs-index c = subst (λ n. c.loop-index.index < n) c.in_ok-entries.en
 
 pub returns-in_err-push : goal.returns-in_err-push
 returns-in_err-push c = passed_on (IsRow IsEntry c.args.outputs.now (codes "then") (view c.args.rule.now)) c.from_residual-in_err-push.result _ c.from_residual-in_err-push.ensures.1 (λ memory row h. memory refl)
+
+pub offset_bounds-outputs-index : goal.offset_bounds-outputs-index
+offset_bounds-outputs-index c = grind (arith, common_steps)
+
+pub overflow_add-inputs : goal.overflow_add-inputs
+overflow_add-inputs c = grind (arith, common_steps)
+
+pub at-requires : goal.at-requires
+at-requires c = grind (arith, common_steps)
+
+pub offset_bounds-entries-index : goal.offset_bounds-entries-index
+offset_bounds-entries-index c = grind (arith, common_steps)

@@ -1,4 +1,5 @@
-use Rattle.std.proofs.Common.{codes, refl, map, ◌+◌, ◌<◌, take, sym, subst}
+use Rattle.std.proofs.lemmas.Grind.{common_steps}
+use Rattle.std.proofs.Common.{arith, codes, refl, map, ◌+◌, ◌<◌, take, sym, subst}
 use Rattle.toml.specs.View.{view, items_view}
 use Rattle.dtable.specs.PlanFile.{IsCellUnder, IsRow}
 use Rattle.dtable.specs.Scope.{seen_of}
@@ -42,3 +43,9 @@ bounds-inputs-index c = subst (λ n. c.loop-index.index < n) c.in_ok-entries.ens
 
 pub returns-in_err-push : goal.returns-in_err-push
 returns-in_err-push c = passed_on (IsRow (IsCellUnder c.args.names.now (map seen_of c.args.tables.now)) c.args.inputs.now (codes "when") (view c.args.rule.now)) c.from_residual-in_err-push.result _ c.from_residual-in_err-push.ensures.1 (λ memory row h. memory refl)
+
+pub offset_bounds-inputs-index : goal.offset_bounds-inputs-index
+offset_bounds-inputs-index c = grind (arith, common_steps)
+
+pub offset_bounds-entries-index : goal.offset_bounds-entries-index
+offset_bounds-entries-index c = grind (arith, common_steps)

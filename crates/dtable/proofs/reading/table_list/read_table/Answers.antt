@@ -1,4 +1,4 @@
-use Rattle.std.proofs.Common.{map, rules, ap, sym, ◌∙◌}
+use Rattle.std.proofs.Common.{map, ap, sym, ◌∙◌}
 use Rattle.toml.specs.View.{view}
 use Rattle.tables.specs.Plan.{satisfies_constraints}
 use Rattle.dtable.specs.Scope.{seen_of}

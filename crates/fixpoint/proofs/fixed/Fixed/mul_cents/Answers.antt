@@ -5,17 +5,17 @@ use Rattle.fixpoint.specs.Number.{IsInRange}
 use Rattle.fixpoint.proofs.NearestCents.{rounded_where_exact}
 use Rattle.fixpoint.proofs.fixed.Fixed.mul_cents.Goals as goal
 
-pub returns-clause-rounded : goal.returns-clause-rounded
-returns-clause-rounded c =
+pub returns-in-Ok-clause-rounded : goal.returns-in-Ok-clause-rounded
+returns-in-Ok-clause-rounded c =
     let units = cents_of_product c.args.self c.args.rate in
     let exact : SomeIff c.from_units.result (IsInRange units) units = search rules in
     rounded_where_exact c.args.self c.args.rate c.from_units.result (IsInRange units) exact
 
-pub returns-clause-exact : goal.returns-clause-exact
-returns-clause-exact c =
+pub returns-in-Ok-clause-exact : goal.returns-in-Ok-clause-exact
+returns-in-Ok-clause-exact c =
     let units = cents_of_product c.args.self c.args.rate in
     let exact : SomeIff c.from_units.result (IsInRange units) units = search rules in
     exact
 
-pub returns-in_err-ok-clause-rounded : goal.returns-in_err-ok-clause-rounded
-returns-in_err-ok-clause-rounded c = grind (arith, common_steps)
+pub returns-in-Err-clause-exact : goal.returns-in-Err-clause-exact
+returns-in-Err-clause-exact c = grind (arith, common_steps)

@@ -1,0 +1,21 @@
+use Rattle.std.proofs.Common.{sym, ◌∙◌, arith}
+use Rattle.std.specs.Str.{bytes_eq}
+use Rattle.tables.specs.declared.table.Output.{Output}
+use Rattle.tables.proofs.Searches.{position_more, position_found, position_missing}
+use Rattle.tables.proofs.environment.place_of.Goals as goal
+
+pub loop-place-init : goal.loop-place-init
+loop-place-init c k d below = absurd (omega arith)
+
+pub loop-place-preserved : goal.loop-place-preserved
+loop-place-preserved c =
+    let tested = sym c.eq.ensures ∙ c.if-eq.false in
+    position_more (λ (o : Output). bytes_eq o.name c.args.name.now) c.args.outputs.now c.loop-place.place c.index-outputs-place.result c.loop-place-test.true c.index-outputs-place.is c.loop-place.invariant (rw c.as_str.ensures.text at tested)
+
+pub returns-then-eq : goal.returns-then-eq
+returns-then-eq c =
+    let tested = sym c.eq.ensures ∙ c.if-eq.true in
+    position_found (λ (o : Output). bytes_eq o.name c.args.name.now) c.args.outputs.now c.loop-place.place c.index-outputs-place.result c.loop-place-test.true c.index-outputs-place.is c.loop-place.invariant (rw c.as_str.ensures.text at tested)
+
+pub returns : goal.returns
+returns c = position_missing (λ (o : Output). bytes_eq o.name c.args.name.now) c.args.outputs.now c.loop-place.place c.loop-place-test.false c.loop-place.invariant

@@ -1,0 +1,12 @@
+use Rattle.std.proofs.Common.{arith}
+use Rattle.std.proofs.lemmas.Grind.{common_steps}
+use Rattle.tables.proofs.plan.Plan.needs.Goals as goal
+
+pub loop-table-preserved : goal.loop-table-preserved
+loop-table-preserved c = grind (arith, common_steps)
+
+pub returns-then-reads : goal.returns-then-reads
+returns-then-reads c = grind (arith, common_steps)
+
+pub returns : goal.returns
+returns c = grind (arith, common_steps)
