@@ -1,5 +1,3 @@
-pub mod OrderedRuns
-pub mod Remittances
 pub mod Readings
 pub mod Appended
 pub mod Fields

@@ -1,5 +1,3 @@
-pub mod RunText
-pub mod RunStop
 pub mod Settling
 pub mod RecordEnds
 pub mod Differing

@@ -1,6 +1,5 @@
 pub mod Ends
 pub mod Statuses
 pub mod Explanations
-pub mod Ordered
 pub mod Checks
 pub mod CommandEnds

@@ -1,34 +1,27 @@
 -- The meaning of the exit statuses of the commands.
-use Rattle.std.specs.Prelude.{◌≡◌, ◌≢◌, ◌⊎◌, ℕ, true, false, List, Option, Result, Ok, Err}
+use Rattle.std.specs.Prelude.{◌≡◌, ◌⊎◌, ℕ, true, false, List, Option, Result, Ok, Err}
 use Rattle.clap.specs.declared.error.Error.{Error}
 use Rattle.clap.specs.declared.parser.matches.ArgMatches.{ArgMatches}
 use Rattle.console.specs.declared.exit_status.ExitStatus.{ExitStatus}
-use Rattle.console.specs.declared.exit_status.ExitStatus.TheVariants.{Refused}
 use Rattle.console.specs.declared.names.TheConstants.{AUDIT, CHECK, COMPARE, EXPLAIN_RECORD, RUN}
-use Rattle.console.specs.ExitStatus.{IsUnjudged}
-use Rattle.value_command.specs.Ends.{Ends, HasText, IsHelp, IsStatusOf}
+use Rattle.value_command.specs.Ends.{Ends, HasText, IsHelp}
 use Rattle.value_command.specs.Texts.{IsNamedPlan, Whole}
 use Rattle.check_report.specs.declared.check.report.Findings.{Findings}
-use Rattle.orders.specs.declared.stop.Stop.{Stop}
-use Rattle.adjudicate.specs.RunStop.{IsRunReason}
 use Rattle.journal.specs.declared.order.Order.{Order}
-use Rattle.journal.specs.declared.order.Order.TheVariants.{Any}
-use Rattle.orders.specs.RunTexts.{IsOrderedRemittance, RunTexts}
-use Rattle.adjudicate.specs.RunText.{IsRemittance}
-use Rattle.orders.specs.Stop.{IsPlanReason, status_of}
+use Rattle.orders.specs.RunTexts.{IsOrderedRemittance}
+use Rattle.orders.specs.Stop.{IsPlanReason}
 use Rattle.check_report.specs.Findings.{IsReportedText}
-use Rattle.commands.specs.declared.run.Texts.{Texts}
+use Rattle.run_command.specs.Ends.{IsStatusOfRefusal, RunIsDone, RunIsRefused}
+use Rattle.run_command.specs.Texts.{HasNamedTexts, texts_at}
+use Rattle.run_command.specs.Words.{IsCutoff, IsOrder, IsStrict}
+use Rattle.run_command.specs.declared.run.Texts.{Texts}
 use Rattle.adjudicate.specs.Audits.{IsAuditReason}
 use Rattle.commands.specs.Comparisons.{ClaimsAreCompared, ClaimsAreRefused}
 use Rattle.commands.specs.Explanations.{ExplainIsDone, ExplainIsRefused}
 use Rattle.plan_commands.specs.Ends.{PlanCommandIsDone, PlanCommandIsRefused}
-use Rattle.commands.specs.Texts.{AreClosed, HasNamedTexts, IsNamedRemittance, texts_at}
+use Rattle.commands.specs.Texts.{IsNamedRemittance}
 use Rattle.plan_commands.specs.WholePlans.{IsWholeChecked, IsWholeRefused}
-use Rattle.commands.specs.Words.{AsksStrict, IsCutoff, IsFindings, IsOrder, IsStrict, IsWhole, IsWorkers}
-
--- some error has this reason, and this is its exit status
-abbrev pub IsStatusOfRefusal : (Stop → Type 0) → ExitStatus → Type 0
-IsStatusOfRefusal IsReason status = IsStatusOf status_of IsReason status
+use Rattle.commands.specs.Words.{IsFindings, IsWhole}
 
 -- each table of the plan is checked alone: the plan has an output text, with the gaps and overlaps that the option selects
 pub record AreTablesChecked (words : ArgMatches) (plan : List ℕ) : Type 0 where
@@ -60,56 +53,6 @@ pub record PlanIsRefused (whole : Whole) (words : ArgMatches) (status : ExitStat
 -- `check` can end with this status: it is that of an error of a check of the named plan, or unknown keys are errors
 abbrev pub CheckIsRefused : Whole → ArgMatches → ExitStatus → Type 0
 CheckIsRefused whole words status = PlanIsRefused whole words status ⊎ IsStrict words
-
--- the bytes are a remittance of the texts, and where an order is asked for, the one in this order
-pub record IsRemittanceIn (order : Order) (texts : RunTexts) (bytes : List ℕ) : Type 0 where
-  pub whole : IsRemittance texts bytes
-  pub ordered : order ≢ Any → IsOrderedRemittance order texts bytes
-
--- these texts have a remittance at the cutoff and in the order of the command line
-pub record HasRemittance (words : ArgMatches) (texts : Texts) : Type 0 where
-  pub cutoff : Option ℕ
-  pub asked : IsCutoff words cutoff
-  pub order : Order
-  pub ordered : IsOrder words order
-  pub has_text : HasText (IsRemittanceIn order (texts_at texts cutoff))
-
--- this is the exit status of an error of a run of these texts, with the cutoff and the workers of the command line
-pub record IsRefusedRun (words : ArgMatches) (texts : Texts) (status : ExitStatus) : Type 0 where
-  pub cutoff : Option ℕ
-  pub asked : IsCutoff words cutoff
-  pub workers : ℕ
-  pub engaged : IsWorkers words workers
-  pub refused : IsStatusOfRefusal (IsRunReason (texts_at texts cutoff) workers) status
-
--- the status where unknown keys are searched for: there is one, or memory ran out
-abbrev pub IsUnusedStatus : ExitStatus → Type 0
-IsUnusedStatus status = IsUnjudged status ⊎ (status ≡ Refused)
-
--- the status of a run that has settled nothing: no input was judged, or `--strict` refuses unknown keys, or texts whose records may be lost
-abbrev pub IsUnreadStatus : ArgMatches → ExitStatus → Type 0
-IsUnreadStatus words status = IsUnjudged status ⊎ ((status ≡ Refused) × IsStrict words)
-
--- a run of these texts can end with this status, which is not `Done`: it is that of an error, or all records of a file are refused under `--strict`
-abbrev pub IsStatusOfRun : ArgMatches → RunTexts → ℕ → ExitStatus → Type 0
-IsStatusOfRun words texts workers status = IsStatusOfRefusal (IsRunReason texts workers) status ⊎ IsStrict words
-
--- `run` can end with `Done`: the named texts have a remittance, and under `--strict` none of them ends within a quoted field
-pub record RunIsDone (whole : Whole) (words : ArgMatches) : Type 0 where
-  pub texts : Texts
-  pub named : HasNamedTexts whole words texts
-  pub closed : AsksStrict words → AreClosed texts
-  pub has_remittance : HasRemittance words texts
-
--- this is the exit status of an error of a run of the named texts
-pub record TextsAreRefused (whole : Whole) (words : ArgMatches) (status : ExitStatus) : Type 0 where
-  pub texts : Texts
-  pub named : HasNamedTexts whole words texts
-  pub refused : IsRefusedRun words texts status
-
--- `run` can end with this status: it is that of an error of a run of the named texts, or `--strict` may refuse them
-abbrev pub RunIsRefused : Whole → ArgMatches → ExitStatus → Type 0
-RunIsRefused whole words status = TextsAreRefused whole words status ⊎ IsStrict words
 
 -- the bytes are the remittance of these texts, at the cutoff and in the order of the command line
 pub record IsAudited (words : ArgMatches) (texts : Texts) (remittance : List ℕ) : Type 0 where

@@ -6,9 +6,6 @@ ghost use Rattle.console.specs.ExitStatus.{IsUnjudged};
 ghost use Rattle.commands.specs.Ends.{AuditIsDone, AuditIsRefused, IsAudited, IsRefusedAudit};
 ghost use Rattle.commands.specs.Texts.{IsNamedRemittance};
 
-use crate::explaining::refuse;
-use crate::run::{Texts, slices_of, texts_of};
-use crate::words::{cutoff_of, order_of};
 use adjudicate::{Audit, AuditInput, Difference, Order, do_audit, record_count};
 use clap::ArgMatches;
 use console::names::REMITTANCE;
@@ -16,6 +13,7 @@ use console::{ExitStatus, Sources, no_memory};
 use diagnostics::push_printable;
 use evaluation::ValueStop;
 use fixpoint::{Out, put_all};
+use run_command::{Texts, cutoff_of, order_of, refuse, slices_of, texts_of};
 use std::alloc::{AllocError, Global};
 use std::io;
 use std::thread::Threads;

@@ -8,7 +8,6 @@ use crate::auditing::audit_of;
 use crate::check::check_of;
 use crate::compared_claims::{compare_claims_of, has_claims};
 use crate::explained::explain_of;
-use crate::run::run_of;
 use adjudicate::WORKERS_LIMIT;
 use clap::{ArgMatches, Error};
 use console::names::{AUDIT, CHECK, COMPARE, EXPLAIN_RECORD, RUN};
@@ -17,6 +16,7 @@ use console::{
     program_arguments, terminal_columns, usage,
 };
 use plan_commands::plan_command;
+use run_command::run_of;
 use std::fs::File;
 use std::rt::{Env, Files};
 use std::sync::Wait;

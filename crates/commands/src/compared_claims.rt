@@ -5,15 +5,11 @@ ghost use Rattle.console.specs.declared.exit_status.ExitStatus.TheVariants.{Done
 ghost use Rattle.console.specs.ExitStatus.{IsUnjudged};
 ghost use Rattle.adjudicate.specs.Audits.{IsAuditReason};
 ghost use Rattle.commands.specs.Comparisons.{BothAreSettled, BothHaveRemittances, ClaimsAreCompared, ClaimsAreRefused, IsErrorOfEither, IsNamedOld, IsRefusedComparison, new_texts, old_texts};
-ghost use Rattle.commands.specs.Ends.{IsStatusOfRefusal};
+ghost use Rattle.run_command.specs.Ends.{IsStatusOfRefusal};
 ghost use Rattle.orders.specs.RunTexts.{IsOrderedRemittance};
 ghost use Rattle.plan_commands.specs.Words.{IsFail};
 
 use crate::comparison_lines::lines_of;
-use crate::explaining::{AboutFiles, refuse};
-use crate::further::put_further;
-use crate::run::{Texts, slices_of, texts_of};
-use crate::words::{cutoff_of, order_of};
 use adjudicate::{
     ComparedTexts, Comparison, Order, OrderedInput, PLAN_LIMIT_BYTES, Stop, ValueStop,
     comparison_of, do_ordered_remittance,
@@ -22,11 +18,16 @@ use clap::ArgMatches;
 use console::names::{FILE, NARROWED, OLD, RENAMED, TERMS};
 use console::{AtomicTarget, ExitStatus, Sources, no_memory, print_error};
 use fixpoint::{Out, put_all};
-use plan_commands::{fails, print_lines};
+use plan_commands::fails;
+use run_command::{
+    AboutFiles, Texts, cutoff_of, order_of, put_further, refuse, slices_of, texts_of,
+};
 use std::io;
 use std::rt::Files;
 use std::thread::Threads;
-use value_command::{About, exit_status_of, output_of, read_or_report, report_unwritable};
+use value_command::{
+    About, exit_status_of, output_of, print_lines, read_or_report, report_unwritable,
+};
 
 /// The texts whose remittances are compared, and their order.
 #[derive(Clone, Copy)]

@@ -29,12 +29,12 @@ use Rattle.console.specs.declared.exit_status.ExitStatus.{ExitStatus}
 use Rattle.console.specs.declared.names.TheConstants.{NARROWED, OLD, RENAMED, TERMS}
 use Rattle.value_command.specs.Ends.{IsStatusOf}
 use Rattle.value_command.specs.Texts.{IsNamedPlan, IsNamedText, Whole}
-use Rattle.value_command.specs.Words.{word_at, words_at}
+use Rattle.value_command.specs.Words.{IsFlag, text_at, word_at, words_at}
 use Rattle.plan_commands.specs.declared.compare_report.CompareStop.{CompareStop}
 use Rattle.plan_commands.specs.declared.compare_report.CompareStop.TheVariants.{Plans, Text, Word}
 use Rattle.plan_commands.specs.declared.compare_words.WordFault.{WordFault}
 use Rattle.plan_commands.specs.declared.compare_words.WordFault.TheVariants as word
-use Rattle.plan_commands.specs.Words.{AsksFail, IsFail, IsFlag, text_at}
+use Rattle.plan_commands.specs.Words.{AsksFail, IsFail}
 
 -- the bytes are read from the named old plan
 abbrev pub IsNamedOld : Whole → ArgMatches → List ℕ → Type 0

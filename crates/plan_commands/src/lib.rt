@@ -37,6 +37,5 @@ mod zone_lines;
 mod zone_sets;
 
 pub use commands::plan_command;
-pub use lines::print_lines;
 pub use whole_check::check_whole_plan;
 pub use words::fails;

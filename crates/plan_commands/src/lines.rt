@@ -1,13 +1,7 @@
 //! Lines on standard error that are no errors.
 
 use remarks::Remarks;
-
-/// Prints these lines, if there are any.
-pub fn print_lines<R: Eprint>(rt: &R, lines: &str) {
-    if !lines.is_empty() {
-        let _ = rt.eprint(lines);
-    }
-}
+use value_command::print_lines;
 
 /// Prints a line if a quoted field of the file is never closed, since the rows after it are lost. If memory runs out for the line, it is left out.
 pub fn report_open_quote<R: Eprint + AllocGlobal>(rt: &R, name: &str, rows: &[u8]) {

@@ -58,3 +58,10 @@ pub fn explain_unreadable<R: Eprint + AllocGlobal>(
         );
     }
 }
+
+/// Prints these lines, if there are any.
+pub fn print_lines<R: Eprint>(rt: &R, lines: &str) {
+    if !lines.is_empty() {
+        let _ = rt.eprint(lines);
+    }
+}

@@ -19,7 +19,7 @@ mod value;
 pub use command::{matched_status, status};
 pub use error_line::exit_status_of;
 pub use explaining::{explain_refusal, value_message};
-pub use explanation::{About, print_message};
+pub use explanation::{About, print_lines, print_message};
 pub use files::plan_of;
 pub use output::{commit_output, output_of, report_unwritable};
 pub use source_text::{read_or_report, report_unread};

@@ -1,0 +1,2 @@
+pub mod OrderedRuns
+pub mod Remittances
