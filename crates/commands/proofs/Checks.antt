@@ -9,7 +9,7 @@ use Rattle.console.specs.declared.exit_status.ExitStatus.TheVariants.{Done, Refu
 use Rattle.value_command.specs.Ends.{HasText}
 use Rattle.value_command.specs.Texts.{IsNamedPlan, Whole}
 use Rattle.plan_commands.specs.WholePlans.{IsWholeChecked, IsWholeRefused}
-use Rattle.run_command.specs.Ends.{IsStatusOfRefusal}
+use Rattle.claim_console.specs.Ends.{IsStatusOfRefusal}
 use Rattle.commands.specs.Ends.{CheckIsDone, CheckIsRefused, IsChecked, IsUnchecked}
 use Rattle.commands.specs.Words.{IsFindings, IsWhole}
 

@@ -1,2 +1,2 @@
--- The exit statuses of the commands, by the lemmas of `run_command`.
-pub use Rattle.run_command.proofs.Ends.{ends_done, kept_twice, placed_done, resource_refused}
+-- The exit statuses of the commands, by the lemmas of `claim_console`.
+pub use Rattle.claim_console.proofs.Ends.{ends_done, kept_twice, placed_done, resource_refused}

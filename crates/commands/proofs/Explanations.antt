@@ -15,13 +15,13 @@ use Rattle.explanation.specs.declared.explaining.Explained.TheVariants as explai
 use Rattle.explanation.specs.declared.finding.FoundClaim.{FoundClaim}
 use Rattle.explanation.specs.declared.format.Format.{Format}
 use Rattle.explanation.specs.declared.row.Place.{Place}
-use Rattle.run_command.specs.Ends.{IsUnreadStatus}
+use Rattle.claim_console.specs.Ends.{IsUnreadStatus}
 use Rattle.commands.specs.Explanations.{ExplainIsDone, ExplainIsRefused, IsAsked, IsAskedExplanation, IsClaimExplanation, IsClaimUnexplained, IsRecordUnexplained, IsUnexplained, without_balances}
-use Rattle.run_command.specs.Texts.{HasNamedTexts, texts_at}
+use Rattle.claim_console.specs.Texts.{HasNamedTexts, texts_at}
 use Rattle.commands.specs.declared.asked.Asked.{Asked}
 use Rattle.commands.specs.declared.asked.Subject.{Subject}
 use Rattle.commands.specs.declared.asked.Subject.TheVariants.{Claim}
-use Rattle.run_command.specs.declared.run.Texts.{Texts}
+use Rattle.claim_console.specs.declared.texts.Texts.{Texts}
 
 -- `explain` over the named texts
 pub explain_done : (whole : Whole) (words : ArgMatches) (asked : Asked) (texts : Texts) (status : ExitStatus) → IsAsked words asked → HasNamedTexts whole words texts

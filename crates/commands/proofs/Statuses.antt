@@ -16,12 +16,12 @@ use Rattle.commands.specs.declared.compared_claims.Compared.{Compared}
 use Rattle.commands.specs.Ends.{AuditIsDone, AuditIsRefused, CommandIsRefused, IsAudited, IsRefused, IsRefusedAudit}
 use Rattle.orders.specs.RunTexts.{IsOrderedRemittance, RunTexts}
 use Rattle.commands.specs.Texts.{IsNamedRemittance}
-use Rattle.run_command.specs.Ends.{IsUnreadStatus}
-use Rattle.run_command.specs.Texts.{HasNamedTexts, texts_at}
-use Rattle.run_command.specs.Words.{IsCutoff, IsOrder, IsStrict}
-use Rattle.run_command.specs.declared.run.Texts.{Texts}
-use Rattle.run_command.proofs.Statuses.{same_texts}
-pub use Rattle.run_command.proofs.Statuses.{unread_not_done}
+use Rattle.claim_console.specs.Ends.{IsUnreadStatus}
+use Rattle.claim_console.specs.Texts.{HasNamedTexts, texts_at}
+use Rattle.claim_console.specs.Words.{IsCutoff, IsOrder, IsStrict}
+use Rattle.claim_console.specs.declared.texts.Texts.{Texts}
+use Rattle.claim_console.proofs.Statuses.{same_texts}
+pub use Rattle.claim_console.proofs.Statuses.{unread_not_done}
 
 -- `audit` over the named texts and the named remittance
 pub audit_done : (whole : Whole) (words : ArgMatches) (texts : Texts) (remittance : List ℕ) (status : ExitStatus) → HasNamedTexts whole words texts → IsNamedRemittance whole words remittance

@@ -13,10 +13,10 @@ use Rattle.value_command.specs.Ends.{IsStatusOf}
 use Rattle.value_command.specs.Texts.{IsNamedText, Whole}
 use Rattle.value_command.specs.Words.{word_at}
 use Rattle.plan_commands.specs.Words.{IsFail}
-use Rattle.run_command.specs.Texts.{HasNamedTexts, texts_at}
-use Rattle.run_command.specs.Words.{IsCutoff, IsOrder, IsStrict}
+use Rattle.claim_console.specs.Texts.{HasNamedTexts, texts_at}
+use Rattle.claim_console.specs.Words.{IsCutoff, IsOrder, IsStrict}
 use Rattle.commands.specs.declared.compared_claims.Compared.{Compared}
-use Rattle.run_command.specs.declared.run.Texts.{Texts}
+use Rattle.claim_console.specs.declared.texts.Texts.{Texts}
 
 -- the bytes are read from the named old plan
 abbrev pub IsNamedOld : Whole → ArgMatches → List ℕ → Type 0

@@ -11,10 +11,11 @@ use Rattle.journal.specs.declared.order.Order.{Order}
 use Rattle.orders.specs.RunTexts.{IsOrderedRemittance}
 use Rattle.orders.specs.Stop.{IsPlanReason}
 use Rattle.check_report.specs.Findings.{IsReportedText}
-use Rattle.run_command.specs.Ends.{IsStatusOfRefusal, RunIsDone, RunIsRefused}
-use Rattle.run_command.specs.Texts.{HasNamedTexts, texts_at}
-use Rattle.run_command.specs.Words.{IsCutoff, IsOrder, IsStrict}
-use Rattle.run_command.specs.declared.run.Texts.{Texts}
+use Rattle.claim_console.specs.Ends.{IsStatusOfRefusal}
+use Rattle.run_command.specs.Ends.{RunIsDone, RunIsRefused}
+use Rattle.claim_console.specs.Texts.{HasNamedTexts, texts_at}
+use Rattle.claim_console.specs.Words.{IsCutoff, IsOrder, IsStrict}
+use Rattle.claim_console.specs.declared.texts.Texts.{Texts}
 use Rattle.adjudicate.specs.Audits.{IsAuditReason}
 use Rattle.commands.specs.Comparisons.{ClaimsAreCompared, ClaimsAreRefused}
 use Rattle.commands.specs.Explanations.{ExplainIsDone, ExplainIsRefused}

@@ -17,13 +17,13 @@ use Rattle.explanation.specs.declared.finding.FoundClaim.{FoundClaim}
 use Rattle.explanation.specs.declared.format.Format.{Format}
 use Rattle.explanation.specs.declared.format.Format.TheVariants.{Csv, Text}
 use Rattle.explanation.specs.declared.row.Place.{Place}
-use Rattle.run_command.specs.Texts.{HasNamedTexts, texts_at}
-use Rattle.run_command.specs.Words.{IsCutoff, IsNumber, IsOrder, IsStrict}
+use Rattle.claim_console.specs.Texts.{HasNamedTexts, texts_at}
+use Rattle.claim_console.specs.Words.{IsCutoff, IsNumber, IsOrder, IsStrict}
 use Rattle.commands.specs.declared.asked.Asked.{Asked}
 use Rattle.commands.specs.declared.asked.Subject.{Subject}
 use Rattle.commands.specs.declared.asked.Subject.TheVariants.{Claim, Family, Member, Record}
 use Rattle.commands.specs.declared.explained.Given.{Given}
-use Rattle.run_command.specs.declared.run.Texts.{Texts}
+use Rattle.claim_console.specs.declared.texts.Texts.{Texts}
 
 -- the byte is `:`
 abbrev pub is_colon : ℕ → Bool

@@ -3,12 +3,12 @@
 ghost use Rattle.std.specs.Prelude.{◌≡◌, ◌≢◌, IfNone, IfSome, Some};
 ghost use Rattle.explanation.specs.declared.row.Place.{Place as PlaceParts};
 ghost use Rattle.commands.specs.Explanations.{IsAsked, IsFormat, IsOrderOrFiles, IsPlace, IsPlaceOf, IsSubject};
-ghost use Rattle.run_command.specs.Words.{IsNumber};
+ghost use Rattle.claim_console.specs.Words.{IsNumber};
 
+use claim_console::{cutoff_of, order_of};
 use clap::ArgMatches;
 use console::names::{AS_CSV, CLAIM_ID, FAMILY, FORMAT, MEMBER, RECORD};
 use explanation::{Format, Order, Place};
-use run_command::{cutoff_of, order_of};
 
 /// What the command line asks for.
 #[derive(Clone, Copy)]

@@ -7,13 +7,13 @@ ghost use Rattle.commands.specs.Ends.{AuditIsDone, AuditIsRefused, IsAudited, Is
 ghost use Rattle.commands.specs.Texts.{IsNamedRemittance};
 
 use adjudicate::{Audit, AuditInput, Difference, Order, do_audit, record_count};
+use claim_console::{Texts, cutoff_of, order_of, refuse, slices_of, texts_of};
 use clap::ArgMatches;
 use console::names::REMITTANCE;
 use console::{ExitStatus, Sources, no_memory};
 use diagnostics::push_printable;
 use evaluation::ValueStop;
 use fixpoint::{Out, put_all};
-use run_command::{Texts, cutoff_of, order_of, refuse, slices_of, texts_of};
 use std::alloc::{AllocError, Global};
 use std::io;
 use std::thread::Threads;

@@ -7,17 +7,17 @@ ghost use Rattle.orders.specs.Stop.{IsPlanReason};
 ghost use Rattle.check_report.specs.Findings.{IsReportedText};
 ghost use Rattle.value_command.specs.Ends.{HasText, PutsText};
 ghost use Rattle.commands.specs.Ends.{CheckIsDone, CheckIsRefused, IsChecked, IsUnchecked};
-ghost use Rattle.run_command.specs.Ends.{IsStatusOfRefusal};
+ghost use Rattle.claim_console.specs.Ends.{IsStatusOfRefusal};
 
 use crate::words::{findings_of, is_whole};
 use adjudicate::{Findings, do_findings_check};
+use claim_console::{AboutFiles, explain_refusal, is_strict, print_unknown_keys, refuse_unused};
 use claim_diagnostics::explain_checked_plan;
 use clap::ArgMatches;
 use console::{AtomicTarget, ExitStatus, Sources};
 use fixpoint::Out;
 use plan_commands::check_whole_plan;
 use remarks::empty_cells;
-use run_command::{AboutFiles, explain_refusal, is_strict, print_unknown_keys, refuse_unused};
 use std::io;
 use std::rt::Files;
 use value_command::{

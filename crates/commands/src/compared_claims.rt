@@ -5,7 +5,7 @@ ghost use Rattle.console.specs.declared.exit_status.ExitStatus.TheVariants.{Done
 ghost use Rattle.console.specs.ExitStatus.{IsUnjudged};
 ghost use Rattle.adjudicate.specs.Audits.{IsAuditReason};
 ghost use Rattle.commands.specs.Comparisons.{BothAreSettled, BothHaveRemittances, ClaimsAreCompared, ClaimsAreRefused, IsErrorOfEither, IsNamedOld, IsRefusedComparison, new_texts, old_texts};
-ghost use Rattle.run_command.specs.Ends.{IsStatusOfRefusal};
+ghost use Rattle.claim_console.specs.Ends.{IsStatusOfRefusal};
 ghost use Rattle.orders.specs.RunTexts.{IsOrderedRemittance};
 ghost use Rattle.plan_commands.specs.Words.{IsFail};
 
@@ -14,14 +14,14 @@ use adjudicate::{
     ComparedTexts, Comparison, Order, OrderedInput, PLAN_LIMIT_BYTES, Stop, ValueStop,
     comparison_of, do_ordered_remittance,
 };
+use claim_console::{
+    AboutFiles, Texts, cutoff_of, order_of, put_further, refuse, slices_of, texts_of,
+};
 use clap::ArgMatches;
 use console::names::{FILE, NARROWED, OLD, RENAMED, TERMS};
 use console::{AtomicTarget, ExitStatus, Sources, no_memory, print_error};
 use fixpoint::{Out, put_all};
 use plan_commands::fails;
-use run_command::{
-    AboutFiles, Texts, cutoff_of, order_of, put_further, refuse, slices_of, texts_of,
-};
 use std::io;
 use std::rt::Files;
 use std::thread::Threads;

@@ -5,9 +5,10 @@ ghost use Rattle.console.specs.declared.exit_status.ExitStatus.TheVariants.{Done
 ghost use Rattle.explanation.specs.Explained.{IsExplanation, IsFamilyExplanation, IsFoundIn};
 ghost use Rattle.value_command.specs.Ends.{HasText};
 ghost use Rattle.commands.specs.Explanations.{ExplainIsDone, ExplainIsRefused, IsAskedExplanation, IsClaimExplanation, IsClaimUnexplained, IsFamilyUnexplained, IsRecordUnexplained, IsUnexplained, given_texts, without_balances};
-ghost use Rattle.run_command.specs.Texts.{texts_at};
+ghost use Rattle.claim_console.specs.Texts.{texts_at};
 
 use crate::asked::{Asked, Subject, asked_of};
+use claim_console::{AboutFiles, Texts, refuse, slices_of, texts_of};
 use clap::ArgMatches;
 use console::{ExitStatus, Sources, no_memory, print_error};
 use diagnostics::{Explanation, explain, push_printable};
@@ -17,7 +18,6 @@ use explanation::{
     do_explain_family, find_claim, found_claim_has_a_record,
 };
 use fixpoint::Out;
-use run_command::{AboutFiles, Texts, refuse, slices_of, texts_of};
 use std::alloc::{AllocError, Global};
 use std::io;
 use std::thread::Threads;

@@ -14,7 +14,7 @@ use Rattle.journal.specs.Terms.{Terms, claims_of}
 use Rattle.claim_gate.specs.Parts.{GateParts}
 use Rattle.claim_gate.specs.Replies.{HasClaims}
 use Rattle.crew.specs.Reading.{AreLeft, HasRead, HasReadAll, IsAtRecord, IsToOffer}
-use Rattle.crew.specs.Sharing.{HasAccepted}
+use Rattle.gate_calls.specs.Sharing.{HasAccepted}
 use Rattle.crew.specs.declared.intake.Intake.{Intake}
 
 -- the claims at a place are those of the text at the place

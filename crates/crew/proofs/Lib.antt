@@ -1,7 +1,3 @@
-pub mod Sections
-pub mod Journals
-pub mod Claims
 pub mod Lefts
-pub mod HeldClaims
-pub mod Passes
 pub mod Offers
+pub mod Results

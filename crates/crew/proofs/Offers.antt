@@ -14,9 +14,9 @@ use Rattle.ordered_claims.specs.OrderedParts.{AreJoined, BeginsUnder, GivesNext,
 use Rattle.crew.specs.Accepting.{ArePast, HasOffered, HasOfferedAll, IsAcceptorStep, IsAtClaim, IsBetween}
 use Rattle.crew.specs.declared.acceptor.AcceptorStep.{AcceptorStep}
 use Rattle.crew.specs.declared.acceptor.AcceptorStep.TheVariants.{NextClaim, ReadOn, EndProviders, Leave}
-use Rattle.crew.specs.Sharing.{HasAccepted, is_past, is_shut}
-use Rattle.crew.proofs.HeldClaims.{any_goes_on}
-use Rattle.crew.proofs.Sections.{no_fewer}
+use Rattle.gate_calls.specs.Sharing.{HasAccepted, is_past, is_shut}
+use Rattle.gate_calls.proofs.HeldClaims.{any_goes_on}
+use Rattle.gate_calls.proofs.Sections.{no_fewer}
 
 -- where the terms ask for no order, each claim is due
 pub due_in_any : (terms : TermsParts) (gate : GateParts) (provider place : ℕ) → gate.terms ≡ terms → terms.order ≡ Any → IsDueAt gate provider place

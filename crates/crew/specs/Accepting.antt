@@ -4,7 +4,7 @@ use Rattle.claim_gate.specs.Parts.{GateParts}
 use Rattle.claim_gate.specs.Replies.{HasClaims}
 use Rattle.claim_gate.specs.Terms.{ForTerms, TermsParts}
 use Rattle.ordered_claims.specs.OrderedParts.{HasAcceptedGiven, OrderedParts, given_of}
-use Rattle.crew.specs.Sharing.{is_past, is_shut}
+use Rattle.gate_calls.specs.Sharing.{is_past, is_shut}
 use Rattle.crew.specs.declared.acceptor.AcceptorStep.{AcceptorStep}
 use Rattle.crew.specs.declared.acceptor.AcceptorStep.TheVariants.{NextClaim, ReadOn, EndProviders, Leave}
 use Rattle.crew.specs.declared.acceptor.Offered.{Offered}

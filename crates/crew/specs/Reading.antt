@@ -8,7 +8,7 @@ use Rattle.claim_gate.specs.Replies.{IsFiled}
 use Rattle.claim_gate.specs.Terms.{ForTerms, TermsParts}
 use Rattle.claim_gate.specs.declared.offer.Offer.{Offer}
 use Rattle.journal.specs.Terms.{Terms, claims_of}
-use Rattle.crew.specs.Sharing.{HasAccepted, is_shut}
+use Rattle.gate_calls.specs.Sharing.{HasAccepted, is_shut}
 use Rattle.crew.specs.declared.intake.Intake.{Intake}
 use Rattle.crew.specs.declared.intake.Record.{Record}
 use Rattle.crew.specs.declared.intake.Record.TheVariants as found

@@ -3,15 +3,14 @@
 ghost use Rattle.std.specs.Prelude.{◌≡◌, ◌<◌, length, IfOk, IfErr};
 ghost use Rattle.std.specs.Thread.{IsSync};
 ghost use Rattle.crew.specs.Accepting.{AreOffered, ArePast, HasOfferedAll, IsAcceptorStep, IsAtClaim};
-ghost use Rattle.crew.specs.Passes.{GoesOn, LeavesWith};
+ghost use Rattle.gate_calls.specs.Passes.{GoesOn, LeavesWith};
 
 use crate::fetching::Fetching;
-use crate::offering::{end, offer};
 use crate::reading_signal::ReadingSignal;
-use crate::shared::{Exit, Onward, Shared};
 use claim_gate::Gate;
 use faults::RunFault;
 use gate_batching::{BatchTurn, OFFERS_LIMIT};
+use gate_calls::{Exit, Onward, Shared, end, offer};
 use ordered_claims::{ClaimQueues, ClaimReaders, NextClaim, OrderedClaims};
 use std::alloc::AllocError;
 use std::sync::Wait;

@@ -1,15 +1,15 @@
 //! Whether the acceptor has the gate prefetch what its next offers need.
 
-use crate::shared::Exit;
 use claim_gate::{BoxedClaim, Gate, Prefetching};
 use faults::RunFault;
+use gate_calls::Exit;
 use std::sync::Wait;
 
 /// How a run prefetches for the next offers to its gate. This is a parameter of a run, since a gate of the caller's has the
 /// calls of `Gate` alone.
 pub(crate) trait Fetching<G: Gate> {
     ghost use Rattle.std.specs.Prelude.{IfOk, IfErr};
-    ghost use Rattle.crew.specs.Passes.{GoesOn, LeavesWith};
+    ghost use Rattle.gate_calls.specs.Passes.{GoesOn, LeavesWith};
 
     /// Prefetches what the offers of these claims need. Other claims may be offered all the same.
     fn fetch<R: Wait>(

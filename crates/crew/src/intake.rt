@@ -1,19 +1,18 @@
 //! The work of an intake thread, which reads a provider's file and offers its claims.
 ghost use Rattle.std.specs.Prelude.{◌≡◌, ◌<◌, ◌≤◌, ◌-◌, true, [], length, get_or, IfOk, IfErr};
 ghost use Rattle.intake_csv.specs.Rows.{IsAtStart};
-ghost use Rattle.crew.specs.Passes.{GoesOn, LeavesWith};
+ghost use Rattle.gate_calls.specs.Passes.{GoesOn, LeavesWith};
 ghost use Rattle.crew.specs.Reading.{IsAtRecord, IsStep, Reads};
-ghost use Rattle.crew.specs.Sharing.{is_past};
+ghost use Rattle.gate_calls.specs.Sharing.{is_past};
 ghost use Rattle.faults.specs.declared.run_fault.RunFault.TheVariants.{OutOfMemory};
 ghost use Rattle.journal.specs.declared.order.Order.TheVariants.{Any};
 
 use crate::acceptor::run_acceptor;
 use crate::fetching::Fetching;
-use crate::offering::{end, offer};
-use crate::shared::{Exit, Onward, Shared};
 use claim_gate::{BoxedClaim, Gate, Offer, Order, Terms};
 use faults::RunFault;
 use gate_batching::{BatchTurn, OFFERS_LIMIT};
+use gate_calls::{Exit, Onward, Shared, end, offer};
 use intake_csv::{
     Row, Rows, given_row_has_the_claim, no_records_give_no_rows, reader_begins_with_all_rows,
 };

@@ -7,23 +7,19 @@ ghost use Rattle.journal.specs.InOrder.{AreFirstInOrder};
 ghost use Rattle.journal.specs.declared.order.Order.TheVariants.{Any};
 ghost use Rattle.claim_gate.specs.Terms.{ForTerms};
 ghost use Rattle.journal.specs.Gate.{LeadsTo};
-ghost use Rattle.crew.specs.Passes.{GoesOn, HasEnded, LeavesWith};
+ghost use Rattle.gate_calls.specs.Passes.{GoesOn, HasEnded, LeavesWith};
 ghost use Rattle.crew.specs.Workers.{IsWorkerCount};
 ghost use Rattle.faults.specs.declared.run_fault.RunFault.TheVariants.{Workers, Stopped};
 
 use crate::fetching::{Fetching, GateFetching, NoFetching};
 use crate::intake::run_intake_part;
-use crate::least_fault::LeastFault;
-use crate::shared::{Exit, Shared};
-use crate::spare_claims::SpareClaims;
-use crate::stopping::stop;
-use crate::worker::run_worker;
 use claim_gate::{
     Batch, Gate, GateState, LockedGate, SerialGate, SerialPrefetching, Terms, claim_lists_exist,
 };
 use cutplan::compile;
 use faults::RunFault;
 use gate_batching::GateBatching;
+use gate_calls::{Exit, LeastFault, Shared, SpareClaims, run_worker, stop};
 use journal::finished_is_final;
 use std::alloc::Global;
 use std::sync::Wait;

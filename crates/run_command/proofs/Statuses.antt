@@ -4,12 +4,15 @@ use Rattle.clap.specs.declared.parser.matches.ArgMatches.{ArgMatches}
 use Rattle.console.specs.declared.exit_status.ExitStatus.{ExitStatus}
 use Rattle.console.specs.declared.exit_status.ExitStatus.TheVariants.{Done, Refused}
 use Rattle.value_command.specs.Texts.{Whole}
-use Rattle.value_command.proofs.Ends.{unjudged_not_done, unjudged_not_refused}
+use Rattle.value_command.proofs.Ends.{unjudged_not_refused}
 use Rattle.orders.specs.RunTexts.{RunTexts}
-use Rattle.run_command.specs.Ends.{HasRemittance, IsStatusOfRun, IsUnreadStatus, IsUnusedStatus, RunIsDone, RunIsRefused, IsRefusedRun}
-use Rattle.run_command.specs.Texts.{AreClosed, HasNamedTexts, texts_at}
-use Rattle.run_command.specs.Words.{AsksStrict, IsCutoff, IsStrict, IsWorkers}
-use Rattle.run_command.specs.declared.run.Texts.{Texts}
+use Rattle.claim_console.specs.declared.texts.Texts.{Texts}
+use Rattle.claim_console.specs.Ends.{IsUnreadStatus}
+use Rattle.claim_console.specs.Texts.{AreClosed, HasNamedTexts, texts_at}
+use Rattle.claim_console.specs.Words.{AsksStrict, IsCutoff, IsStrict, IsWorkers}
+use Rattle.claim_console.proofs.Statuses.{same_texts}
+pub use Rattle.claim_console.proofs.Statuses.{unread_not_done}
+use Rattle.run_command.specs.Ends.{HasRemittance, IsStatusOfRun, RunIsDone, RunIsRefused, IsRefusedRun}
 
 -- `run` over the named texts
 pub run_done : (whole : Whole) (words : ArgMatches) (texts : Texts) (status : ExitStatus) → HasNamedTexts whole words texts → (AsksStrict words → AreClosed texts)
@@ -25,11 +28,6 @@ pub run_refused : (whole : Whole) (words : ArgMatches) (texts : Texts) (status :
     → (status ≡ Refused → IsRefusedRun words texts status ⊎ IsStrict words) → status ≡ Refused → RunIsRefused whole words status
 run_refused whole words texts status named refused is_refused = refused_as whole words texts status named (refused is_refused)
 
--- the texts of a run are those of the command line
-pub same_texts : (run : RunTexts) (texts : Texts) (cutoff : Option ℕ) → run.plan ≡ texts.plan.items → run.balances ≡ option_map (λ b. b.items) texts.balances
-    → run.files ≡ map (λ f. f.items) texts.files.items → run.cutoff ≡ cutoff → run ≡ texts_at texts cutoff
-same_texts run texts cutoff plan balances files cut = λ i. record { plan = plan i; balances = balances i; files = files i; cutoff = cut i }
-
 -- a run that ends as an error of these texts or under `--strict`
 ends_refused : (matches words : ArgMatches) (texts : Texts) (run : RunTexts) (cutoff : Option ℕ) (workers : ℕ) (status : ExitStatus) → words ≡ matches → run ≡ texts_at texts cutoff
     → IsCutoff matches cutoff → IsWorkers matches workers → IsStatusOfRun words run workers status → IsRefusedRun matches texts status ⊎ IsStrict matches
@@ -43,21 +41,6 @@ pub settled_refused : (matches words : ArgMatches) (texts : Texts) (run : RunTex
     → IsRefusedRun matches texts status ⊎ IsStrict matches
 settled_refused matches words texts run cutoff workers status ends same plan balances files cut asked engaged is_refused =
     ends_refused matches words texts run cutoff workers status same (same_texts run texts cutoff plan balances files cut) asked engaged (ends (λ is_done. cc (is_refused, is_done)))
-
--- a search for unknown keys that fails is not done
-pub unused_not_done : (status : ExitStatus) → IsUnusedStatus status → status ≢ Done
-unused_not_done status (inl unjudged) = unjudged_not_done status unjudged
-unused_not_done status (inr refused) = λ is_done. cc (refused, is_done)
-
--- under `--strict` a run is refused for unknown keys
-pub unused_unread : (words : ArgMatches) (status : ExitStatus) → IsStrict words → IsUnusedStatus status → IsUnreadStatus words status
-unused_unread words status strict (inl unjudged) = inl unjudged
-unused_unread words status strict (inr refused) = inr (refused, strict)
-
--- a run that has not read all of its texts is not done
-pub unread_not_done : (words : ArgMatches) (status : ExitStatus) → IsUnreadStatus words status → status ≢ Done
-unread_not_done words status (inl unjudged) = unjudged_not_done status unjudged
-unread_not_done words status (inr (refused, strict)) = λ is_done. cc (refused, is_done)
 
 -- a run that has not read all of its texts is refused under `--strict` alone
 pub unread_refused : (whole : Whole) (words : ArgMatches) (status : ExitStatus) → IsUnreadStatus words status → status ≡ Refused → RunIsRefused whole words status

@@ -1,27 +1,20 @@
 -- The meaning of the exit statuses of a run.
-use Rattle.std.specs.Prelude.{◌≡◌, ◌≢◌, ◌⊎◌, ℕ, List, Option, Result, Ok, Err}
+use Rattle.std.specs.Prelude.{◌≢◌, ◌⊎◌, ℕ, List, Option, Result, Ok, Err}
 use Rattle.clap.specs.declared.error.Error.{Error}
 use Rattle.clap.specs.declared.parser.matches.ArgMatches.{ArgMatches}
 use Rattle.console.specs.declared.exit_status.ExitStatus.{ExitStatus}
-use Rattle.console.specs.declared.exit_status.ExitStatus.TheVariants.{Refused}
 use Rattle.console.specs.declared.names.TheConstants.{RUN}
-use Rattle.console.specs.ExitStatus.{IsUnjudged}
-use Rattle.value_command.specs.Ends.{Ends, HasText, IsHelp, IsStatusOf}
+use Rattle.value_command.specs.Ends.{Ends, HasText, IsHelp}
 use Rattle.value_command.specs.Texts.{Whole}
-use Rattle.orders.specs.declared.stop.Stop.{Stop}
 use Rattle.claim_run.specs.RunStop.{IsRunReason}
 use Rattle.journal.specs.declared.order.Order.{Order}
 use Rattle.journal.specs.declared.order.Order.TheVariants.{Any}
 use Rattle.orders.specs.RunTexts.{IsOrderedRemittance, RunTexts}
 use Rattle.claim_run.specs.RunText.{IsRemittance}
-use Rattle.orders.specs.Stop.{status_of}
-use Rattle.run_command.specs.declared.run.Texts.{Texts}
-use Rattle.run_command.specs.Texts.{AreClosed, HasNamedTexts, texts_at}
-use Rattle.run_command.specs.Words.{AsksStrict, IsCutoff, IsOrder, IsStrict, IsWorkers}
-
--- some error has this reason, and this is its exit status
-abbrev pub IsStatusOfRefusal : (Stop → Type 0) → ExitStatus → Type 0
-IsStatusOfRefusal IsReason status = IsStatusOf status_of IsReason status
+use Rattle.claim_console.specs.declared.texts.Texts.{Texts}
+use Rattle.claim_console.specs.Ends.{IsStatusOfRefusal}
+use Rattle.claim_console.specs.Texts.{AreClosed, HasNamedTexts, texts_at}
+use Rattle.claim_console.specs.Words.{AsksStrict, IsCutoff, IsOrder, IsStrict, IsWorkers}
 
 -- the bytes are a remittance of the texts, and where an order is asked for, the one in this order
 pub record IsRemittanceIn (order : Order) (texts : RunTexts) (bytes : List ℕ) : Type 0 where
@@ -43,14 +36,6 @@ pub record IsRefusedRun (words : ArgMatches) (texts : Texts) (status : ExitStatu
   pub workers : ℕ
   pub engaged : IsWorkers words workers
   pub refused : IsStatusOfRefusal (IsRunReason (texts_at texts cutoff) workers) status
-
--- the status where unknown keys are searched for: there is one, or memory ran out
-abbrev pub IsUnusedStatus : ExitStatus → Type 0
-IsUnusedStatus status = IsUnjudged status ⊎ (status ≡ Refused)
-
--- the status of a run that has settled nothing: no input was judged, or `--strict` refuses unknown keys, or texts whose records may be lost
-abbrev pub IsUnreadStatus : ArgMatches → ExitStatus → Type 0
-IsUnreadStatus words status = IsUnjudged status ⊎ ((status ≡ Refused) × IsStrict words)
 
 -- a run of these texts can end with this status, which is not `Done`: it is that of an error, or all records of a file are refused under `--strict`
 abbrev pub IsStatusOfRun : ArgMatches → RunTexts → ℕ → ExitStatus → Type 0

@@ -5,17 +5,15 @@ ghost use Rattle.console.specs.declared.exit_status.ExitStatus.TheVariants.{Done
 ghost use Rattle.claim_run.specs.RunStop.{IsRunReason};
 ghost use Rattle.claim_run.specs.RunText.{run_texts};
 ghost use Rattle.value_command.specs.Ends.{HasText};
-ghost use Rattle.run_command.specs.Ends.{IsRemittanceIn, IsStatusOfRefusal};
+ghost use Rattle.claim_console.specs.Ends.{IsStatusOfRefusal};
+ghost use Rattle.run_command.specs.Ends.{IsRemittanceIn};
 
-use crate::explaining::AboutFiles;
-use crate::further::{about_without_explanation, further_place, put_further};
 use crate::run::run_to_output;
+use claim_console::{AboutFiles, about_without_explanation, further_place, put_further, work_list};
 use claim_gate::Order;
 use claim_run::{Counting, RunInput};
-use console::names::{FILE, NOTES};
+use console::names::NOTES;
 use console::{AtomicTarget, ExitStatus};
-use dtable::read_plan;
-use run_lists::{Note, NotedTexts, notes_text};
 use std::alloc::Global;
 use std::rt::Files;
 use std::sync::Wait;
@@ -67,7 +65,7 @@ where
     };
     match run_to_output(rt, about, input, order, counting) {
         ExitStatus::Done => {
-            let list = work_list(rt.alloc(), about, input.files, counting);
+            let list = notes_of(rt.alloc(), about, input.files, counting);
             let bytes = list.as_ref().map(Vec::as_slice);
             put_further(rt, about, place, text, bytes)
         }
@@ -79,33 +77,12 @@ where
 }
 
 // The work list of a run that has ended; none if memory ran out for it.
-fn work_list(
+fn notes_of(
     alloc: Global,
     about: &AboutFiles,
     files: &[&[u8]],
     counting: &Counting,
 ) -> Option<Vec<u8>> {
     let notes = counting.notes()?;
-    let names = about.plan.words.get_strs(FILE).unwrap_or(&[]);
-    list_of(alloc, about.plan.plan, names, files, notes)
-}
-
-fn list_of<'x>(
-    alloc: Global,
-    plan: &[u8],
-    names: &'x [&'x str],
-    files: &'x [&'x [u8]],
-    notes: &[Note],
-) -> Option<Vec<u8>> {
-    let Ok(plan) = read_plan(alloc, plan) else {
-        return None;
-    };
-    let texts = NotedTexts {
-        plan: &plan,
-        names,
-        files,
-    };
-    let list = notes_text(alloc, texts, notes).ok();
-    drop(plan);
-    list
+    work_list(alloc, about, files, notes)
 }

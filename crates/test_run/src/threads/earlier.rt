@@ -4,7 +4,7 @@ ghost use Rattle.std.specs.Prelude.{◌≡◌, ◌≤◌, ◌+◌, length, slice
 ghost use Rattle.journal.specs.Terms.{claims_of};
 ghost use Rattle.journal.specs.declared.order.Order.TheVariants.{Any};
 ghost use Rattle.claim_gate.specs.Terms.{ForTerms};
-ghost use Rattle.crew.specs.Sharing.{HasAccepted};
+ghost use Rattle.gate_calls.specs.Sharing.{HasAccepted};
 
 use crate::testing::{expects, fail};
 use claim_gate::{BoxedClaim, Gate, Offer, Served, Terms, claim_lists_exist};

@@ -4,8 +4,8 @@ use Rattle.std.proofs.lemmas.List.{length-map}
 use Rattle.claim_gate.specs.Replies.{HasClaims}
 use Rattle.claim_gate.specs.Terms.{ForTerms, TermsParts}
 use Rattle.crew.proofs.Offers.{one_more_past}
-use Rattle.crew.proofs.Passes.{further, leaves_later, unchanged}
-use Rattle.crew.proofs.Sections.{no_fewer}
+use Rattle.gate_calls.proofs.Passes.{further, leaves_later, unchanged}
+use Rattle.gate_calls.proofs.Sections.{no_fewer}
 use Rattle.crew.proofs.acceptor.end_all.Goals as goal
 
 pub providers-init : goal.providers-init

@@ -1,5 +1,5 @@
 use Rattle.crew.specs.Accepting.{ArePast}
-use Rattle.crew.specs.Passes.{GoesOn}
+use Rattle.gate_calls.specs.Passes.{GoesOn}
 use Rattle.crew.proofs.acceptor.end_all.Given as goal
 
 abbrev pub invariant-providers : goal.invariant-providers

@@ -1,6 +1,6 @@
 use Rattle.std.proofs.Common.{refl, arith}
 use Rattle.std.proofs.lemmas.Grind.{common_steps}
-use Rattle.crew.proofs.Passes.{unchanged}
+use Rattle.gate_calls.proofs.Passes.{unchanged}
 use Rattle.crew.proofs.acceptor.fetch_upcoming.Goals as goal
 
 pub returns-then-fetched-gt0-clause-goes_on : goal.returns-then-fetched-gt0-clause-goes_on

@@ -1,7 +1,7 @@
 use Rattle.std.proofs.Common.{refl, arith}
 use Rattle.std.proofs.lemmas.Grind.{common_steps}
 use Rattle.crew.proofs.Offers.{all_offered, offer_due, offer_filed, offer_taken, one_offered, stays_between}
-use Rattle.crew.proofs.Passes.{unchanged}
+use Rattle.gate_calls.proofs.Passes.{unchanged}
 use Rattle.crew.proofs.acceptor.offer_next.Goals as goal
 
 pub returns-in-Unread-clause-goes_on : goal.returns-in-Unread-clause-goes_on

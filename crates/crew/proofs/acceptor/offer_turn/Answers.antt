@@ -1,7 +1,7 @@
 use Rattle.std.proofs.Common.{refl, ◌∙◌, arith}
 use Rattle.std.proofs.lemmas.Grind.{common_steps}
 use Rattle.crew.proofs.Offers.{step_after, still_at}
-use Rattle.crew.proofs.Passes.{further, leaves_later, unchanged}
+use Rattle.gate_calls.proofs.Passes.{further, leaves_later, unchanged}
 use Rattle.crew.proofs.acceptor.offer_turn.Goals as goal
 
 pub offers-init : goal.offers-init

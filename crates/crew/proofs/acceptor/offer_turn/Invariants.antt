@@ -1,6 +1,6 @@
 use Rattle.std.proofs.Common.{◌≡◌, ◌≤◌, ◌+◌}
 use Rattle.crew.specs.Accepting.{IsAtClaim}
-use Rattle.crew.specs.Passes.{GoesOn}
+use Rattle.gate_calls.specs.Passes.{GoesOn}
 use Rattle.crew.proofs.acceptor.offer_turn.Given as goal
 
 abbrev pub invariant-offers : goal.invariant-offers

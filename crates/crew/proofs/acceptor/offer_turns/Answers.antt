@@ -1,6 +1,6 @@
 use Rattle.std.proofs.Common.{refl, ◌∙◌, arith}
 use Rattle.std.proofs.lemmas.Grind.{common_steps}
-use Rattle.crew.proofs.Passes.{further, leaves_later, unchanged}
+use Rattle.gate_calls.proofs.Passes.{further, leaves_later, unchanged}
 use Rattle.crew.proofs.acceptor.offer_turns.Goals as goal
 
 pub turns-init : goal.turns-init

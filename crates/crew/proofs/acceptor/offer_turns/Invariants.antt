@@ -1,5 +1,5 @@
 use Rattle.crew.specs.Accepting.{IsBetween}
-use Rattle.crew.specs.Passes.{GoesOn}
+use Rattle.gate_calls.specs.Passes.{GoesOn}
 use Rattle.crew.proofs.acceptor.offer_turns.Given as goal
 
 abbrev pub invariant-turns : goal.invariant-turns

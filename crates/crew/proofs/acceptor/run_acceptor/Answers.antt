@@ -2,9 +2,9 @@ use Rattle.std.proofs.Common.{refl, ◌∙◌, arith}
 use Rattle.std.proofs.lemmas.Grind.{common_steps}
 use Rattle.std.proofs.lemmas.Bool.{false≢true, or_left}
 use Rattle.journal.specs.Events.{has_end}
-use Rattle.crew.specs.Sharing.{is_shut}
+use Rattle.gate_calls.specs.Sharing.{is_shut}
 use Rattle.crew.proofs.Offers.{first_claim, joined_after, same_given}
-use Rattle.crew.proofs.Passes.{further, further_where_ok, leaves_for_memory, leaves_later, leaves_later_where_err, unchanged}
+use Rattle.gate_calls.proofs.Passes.{further, further_where_ok, leaves_for_memory, leaves_later, leaves_later_where_err, unchanged}
 use Rattle.crew.proofs.acceptor.run_acceptor.Goals as goal
 
 pub loop-init : goal.loop-init

@@ -1,6 +1,6 @@
 use Rattle.ordered_claims.specs.OrderedParts.{AreJoined}
 use Rattle.crew.specs.Accepting.{IsAtClaim}
-use Rattle.crew.specs.Passes.{GoesOn}
+use Rattle.gate_calls.specs.Passes.{GoesOn}
 use Rattle.crew.proofs.acceptor.run_acceptor.Given as goal
 
 abbrev pub invariant-loop : goal.invariant-loop

@@ -1,7 +1,7 @@
 use Rattle.std.proofs.Common.{refl, ◌∙◌, arith}
 use Rattle.std.proofs.lemmas.Grind.{common_steps}
 use Rattle.crew.proofs.Offers.{due_in_any}
-use Rattle.crew.proofs.Passes.{leaves_for_memory, unchanged}
+use Rattle.gate_calls.proofs.Passes.{leaves_for_memory, unchanged}
 use Rattle.crew.proofs.intake.offer_next.Goals as goal
 
 pub read_record-requires-clause-place : goal.read_record-requires-clause-place

@@ -2,10 +2,10 @@ use Rattle.std.proofs.Common.{◌<◌, ap, length, refl, subst, ◌∙◌, arith
 use Rattle.std.proofs.lemmas.Grind.{common_steps}
 use Rattle.std.proofs.lemmas.Bool.{or_left}
 use Rattle.journal.specs.Events.{has_end}
-use Rattle.crew.specs.Sharing.{is_shut}
+use Rattle.gate_calls.specs.Sharing.{is_shut}
 use Rattle.crew.specs.declared.intake.Intake.{Intake}
 use Rattle.crew.proofs.Lefts.{first_record, left_none, spared}
-use Rattle.crew.proofs.Passes.{further, further_where_ok, leaves_by_memory, leaves_later, leaves_later_where_err, unchanged}
+use Rattle.gate_calls.proofs.Passes.{further, further_where_ok, leaves_by_memory, leaves_later, leaves_later_where_err, unchanged}
 use Rattle.crew.proofs.intake.run_intake.Goals as goal
 
 pub turns-init : goal.turns-init

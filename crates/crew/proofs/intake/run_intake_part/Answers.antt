@@ -1,6 +1,6 @@
 use Rattle.std.proofs.Common.{refl, arith}
 use Rattle.std.proofs.lemmas.Grind.{common_steps}
-use Rattle.crew.proofs.Passes.{unchanged}
+use Rattle.gate_calls.proofs.Passes.{unchanged}
 use Rattle.crew.proofs.intake.run_intake_part.Goals as goal
 
 pub overflow_add-number : goal.overflow_add-number

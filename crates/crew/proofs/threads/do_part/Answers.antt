@@ -3,7 +3,7 @@ use Rattle.std.proofs.lemmas.Grind.{common_steps}
 use Rattle.std.proofs.lemmas.List.{length-map}
 use Rattle.claim_gate.specs.Terms.{ForTerms}
 use Rattle.journal.specs.Lawful.{Finished}
-use Rattle.crew.proofs.Passes.{under_any, under_none}
+use Rattle.crew.proofs.Results.{under_any, under_none}
 use Rattle.crew.proofs.threads.do_part.Goals as goal
 
 pub run_intake_part-requires-clause-within : goal.run_intake_part-requires-clause-within

@@ -6,7 +6,7 @@ use Rattle.journal.specs.Lawful.{Finished, Lawful}
 use Rattle.claim_gate.specs.Terms.{ForTerms, IsTermsOf, TermsParts}
 use Rattle.claim_gate.specs.Parts.{GateParts}
 use Rattle.claim_gate.specs.Shared.{IsLawful}
-use Rattle.crew.proofs.Passes.{worn_not_workers}
+use Rattle.crew.proofs.Results.{worn_not_workers}
 use Rattle.crew.proofs.threads.run_after_new.Goals as goal
 
 -- a finished journal stays finished in each later state of the gate

@@ -2,7 +2,7 @@ use Rattle.std.proofs.lemmas.Grind.{common_steps}
 use Rattle.faults.specs.declared.run_fault.RunFault.TheVariants.{OutOfMemory}
 use Rattle.std.proofs.Common.{refl, rules, ◌∙◌, arith}
 use Rattle.journal.specs.Leading.{leads_itself}
-use Rattle.crew.proofs.Passes.{memory_not_stopped, memory_not_workers, not_for_workers}
+use Rattle.crew.proofs.Results.{memory_not_stopped, memory_not_workers, not_for_workers}
 use Rattle.crew.proofs.threads.run_on.Goals as goal
 
 pub returns-then-not-may_have-clause-seen_back : goal.returns-then-not-may_have-clause-seen_back

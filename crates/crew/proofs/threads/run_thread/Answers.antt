@@ -1,6 +1,6 @@
 use Rattle.std.proofs.Common.{◌∙◌, arith}
 use Rattle.std.proofs.lemmas.Grind.{common_steps}
-use Rattle.crew.proofs.Passes.{further, leaves_for_memory}
+use Rattle.gate_calls.proofs.Passes.{further, leaves_for_memory}
 use Rattle.crew.proofs.threads.run_thread.Goals as goal
 
 pub stop-requires-clause-own : goal.stop-requires-clause-own

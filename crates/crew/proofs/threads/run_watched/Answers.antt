@@ -9,7 +9,7 @@ use Rattle.journal.specs.Lawful.{Finished}
 use Rattle.journal.specs.declared.event.Event.{Event}
 use Rattle.journal.specs.declared.order.Order.TheVariants.{Any}
 use Rattle.faults.specs.declared.run_fault.RunFault.TheVariants.{OutOfMemory}
-use Rattle.crew.proofs.Passes.{memory_not_workers, not_for_workers}
+use Rattle.crew.proofs.Results.{memory_not_workers, not_for_workers}
 use Rattle.crew.proofs.threads.run_watched.Goals as goal
 
 -- a journal is not both finished and unfinished, since a reading of the terms is possible

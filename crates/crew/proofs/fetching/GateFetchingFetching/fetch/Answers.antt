@@ -1,4 +1,4 @@
-use Rattle.crew.proofs.Passes.{after_section, leaves_worn}
+use Rattle.gate_calls.proofs.Passes.{after_section, leaves_worn}
 use Rattle.crew.proofs.fetching.GateFetchingFetching.fetch.Goals as goal
 
 pub returns-in-Ok-clause-goes_on : goal.returns-in-Ok-clause-goes_on

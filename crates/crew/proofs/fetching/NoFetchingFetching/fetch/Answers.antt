@@ -1,5 +1,5 @@
 use Rattle.std.proofs.Common.{refl}
-use Rattle.crew.proofs.Passes.{unchanged}
+use Rattle.gate_calls.proofs.Passes.{unchanged}
 use Rattle.crew.proofs.fetching.NoFetchingFetching.fetch.Goals as goal
 
 pub returns-clause-goes_on : goal.returns-clause-goes_on

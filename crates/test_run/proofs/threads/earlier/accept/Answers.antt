@@ -1,6 +1,6 @@
 use Rattle.std.proofs.Common.{◌∙◌, ap}
 use Rattle.claim_gate.specs.Terms.{TermsParts}
-use Rattle.crew.proofs.Sections.{accepts_on}
+use Rattle.gate_calls.proofs.Sections.{accepts_on}
 use Rattle.test_run.proofs.threads.earlier.accept.Goals as goal
 
 pub returns-clause-taken : goal.returns-clause-taken

@@ -2,7 +2,8 @@ use Rattle.std.proofs.Common.{◌≤◌, length, refl, ◌∙◌, arith}
 use Rattle.std.proofs.lemmas.Grind.{common_steps}
 use Rattle.journal.specs.Lawful.{Finished}
 use Rattle.claim_gate.specs.Terms.{ForTerms}
-use Rattle.crew.proofs.Passes.{further, further_where_ok, leaves_later_where_err, unchanged, under_known}
+use Rattle.gate_calls.proofs.Passes.{further, further_where_ok, leaves_later_where_err, unchanged}
+use Rattle.crew.proofs.Results.{under_known}
 use Rattle.crew.proofs.threads.fn.in_threads.scope.Goals as goal
 
 pub stop-stopped-requires-clause-own : goal.stop-stopped-requires-clause-own

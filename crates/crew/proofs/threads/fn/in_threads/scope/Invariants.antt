@@ -1,5 +1,5 @@
 use Rattle.std.proofs.Common.{◌≡◌}
-use Rattle.crew.specs.Passes.{GoesOn}
+use Rattle.gate_calls.specs.Passes.{GoesOn}
 use Rattle.crew.proofs.threads.fn.in_threads.scope.Given as goal
 
 abbrev pub invariant-threads : goal.invariant-threads

@@ -1,0 +1,3 @@
+pub mod MetAlone
+pub mod Sharing
+pub mod Passes
