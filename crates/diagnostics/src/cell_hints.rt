@@ -39,24 +39,31 @@ fn cause_of(cell: &BadCell<'_>) -> &'static str {
     }
 }
 
-// The lists of the fixes for a fault with this cause, in the order in which they are searched. Numbers and days have an order.
+// The lists of the fixes for a fault with this cause, in the order in which they are searched.
 fn lists_of_fixes(cause: CellCause, kind: Kind) -> [&'static str; 4] {
-    let of_order = match kind {
-        Kind::Number | Kind::Day => RANGES,
-        Kind::Text | Kind::Flag => "",
-    };
-    let of_kind = match kind {
-        Kind::Number => NUMBERS,
-        Kind::Text => TEXTS,
-        Kind::Flag => FLAGS,
-        Kind::Day => DAYS,
-    };
     match cause {
         CellCause::BadDate => [DATES, "", "", ""],
         CellCause::Literal => [LITERALS, "", "", ""],
         CellCause::Token | CellCause::WrongKind | CellCause::Trailing => {
-            [FIRST, of_order, of_kind, LAST]
+            [FIRST, list_of_order(kind), list_of_kind(kind), LAST]
         }
         CellCause::BadEscape | CellCause::TooMany | CellCause::OutOfMemory => [""; 4],
+    }
+}
+
+// Numbers and days have an order.
+fn list_of_order(kind: Kind) -> &'static str {
+    match kind {
+        Kind::Number | Kind::Day => RANGES,
+        Kind::Text | Kind::Flag => "",
+    }
+}
+
+fn list_of_kind(kind: Kind) -> &'static str {
+    match kind {
+        Kind::Number => NUMBERS,
+        Kind::Text => TEXTS,
+        Kind::Flag => FLAGS,
+        Kind::Day => DAYS,
     }
 }
